@@ -1,0 +1,15 @@
+pub mod Lists
+pub mod Patterns
+pub mod Elimination
+pub mod Forest
+pub mod Analysis
+pub mod Paths
+pub mod Fill
+pub mod Structure
+pub mod Crowns
+pub mod Frames
+pub mod Walks
+pub mod Meets
+pub mod Counts
+pub mod Tops
+pub mod Passes
