@@ -1,0 +1,4 @@
+pub mod Meaning
+pub mod Tables
+pub mod Links
+pub mod Soundness
