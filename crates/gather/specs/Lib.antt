@@ -1,0 +1,3 @@
+pub mod Joinings
+pub mod Kinds
+pub mod Gatherings
