@@ -1,0 +1,11 @@
+use native.Mathlib.Omega.{arith}
+use Rattle.analysis.specs.Tables.{no-vertex}
+use Rattle.analysis.specs.Counts.{uncounted}
+use Rattle.analysis.proofs.Changes.{first-by-none, first-by-more}
+use Rattle.analysis.proofs.counts.begin_counts.Needs as need
+
+pub loop-i-holds : need.loop-i-holds
+loop-i-holds c = first-by-none _ _
+
+pub loop-i-again : need.loop-i-again
+loop-i-again c = first-by-more uncounted _ _ _ no-vertex (omega arith) (c .loop-i .inv)
