@@ -1,0 +1,7 @@
+mod Analyses
+mod Asking
+mod Entries
+mod Judging
+mod Keeping
+mod Rules
+mod Turns
