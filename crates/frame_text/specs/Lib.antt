@@ -1,0 +1,10 @@
+pub mod Faults
+pub mod Fields
+pub mod Lines
+pub mod Readers
+pub mod Records
+pub mod Parts
+pub mod Answers
+pub mod Blocks
+pub mod Order
+pub mod Laws
