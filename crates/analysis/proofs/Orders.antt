@@ -139,8 +139,8 @@ module _ (vs : List Vertex) (free x : ℕ) (from : 1 ≤ x) (to : x ≤ length v
             ]
       ]
 
--- The vertices past c have their places, and each of them, and the roots, the next place for a child up to c: the places
--- after it are those of the children past c.
+-- The vertices past c have their places, and each of them, and the roots, the next place for a child up to c: the
+-- places after it are those of the children past c.
 pub record Places-past (n : ℕ) (up : ℕ → ℕ) (c free : ℕ) (vs : List Vertex) : Type 0 where
   pub places : (w : ℕ) → c < w → w ≤ n → vertex vs w .place ≡ place n up w
   pub next : (w : ℕ) → (1 ≤ w → c < w) → w ≤ n →

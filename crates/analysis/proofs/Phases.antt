@@ -1,5 +1,5 @@
--- The phases of an analysis put together: what one leaves, the later ones keep. Linking the entries anew keeps their pairs,
--- so the pattern is the same throughout.
+-- The phases of an analysis put together: what one leaves, the later ones keep. Linking the entries anew keeps their
+-- pairs, so the pattern is the same throughout.
 use mathlib.Core.Path.{_≡_, refl, sym, ap, _∙_, subst}
 use mathlib.Core.List.{List}
 use Prim.Native.Nat.{ℕ, _+_, _≤_}
@@ -17,8 +17,8 @@ use Rattle.analysis.specs.Analysed.{Answered}
 pub same-pattern : (n : ℕ) (es fs : List Entry) → pairs-of fs ≡ pairs-of es → pattern-of n fs ≡ pattern-of n es
 same-pattern n es fs same = ap (λ ps. record { order = n; entries = ps }) same
 
--- the entries linked by their higher ends, then by their lower ends; the vertices once the tree is grown, once they are in
--- order, and once their lists are those of the lower ends
+-- the entries linked by their higher ends, then by their lower ends; the vertices once the tree is grown, once they
+-- are in order, and once their lists are those of the lower ends
 module _ (n : ℕ) (fs gs : List Entry) (grown ordered listed : List Vertex)
     (same : pairs-of gs ≡ pairs-of fs) (tree : Tree (pattern-of n fs) grown)
     (order : (p : Pattern) → Parents-of p n grown → Ordered-as p ordered)

@@ -23,8 +23,8 @@ pub record Refused (n : ℕ) (vs ws : List Vertex) (es fs : List Entry) (s t : S
   pub used : t .used ≡ s .used
   pub tops : (v : ℕ) → t .top v ≡ s .top v
 
--- What an analysis of the pattern p leaves in the records of its vertices: the answer to each question of a vertex. The
--- height is what the greatest level in the subtree has over the vertex's own.
+-- What an analysis of the pattern p leaves in the records of its vertices: the answer to each question of a vertex.
+-- The height is what the greatest level in the subtree has over the vertex's own.
 pub record Answered (p : Pattern) (vs : List Vertex) : Type 0 where
   pub parents : (v : ℕ) → 1 ≤ v → v ≤ p .order → parent-of vs v ≡ parent p v
   pub places : (v : ℕ) → 1 ≤ v → v ≤ p .order → vertex vs v .place ≡ place-of p v

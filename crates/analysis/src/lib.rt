@@ -1,5 +1,5 @@
-// The analysis of a pattern over lent tables: from entries to the elimination tree, its places and the counts. An inner
-// room: its calls require what the callers above prove, and users are not meant to call them.
+// The analysis of a pattern over lent tables: from entries to the elimination tree, its places and the counts. An
+// inner room: its calls require what the callers above prove, and users are not meant to call them.
 ghost use Prim.Native.Nat.{ℕ, _≤_};
 ghost use lib.ListN.{length};
 ghost use Rattle.std.specs.Options.{Cases};
@@ -25,8 +25,8 @@ use crate::records::Vertex;
 use crate::tree::grow;
 use sets::AncestorSets;
 
-// Analyses the pattern of the entries, of order n: fills in the vertex records 1 to n and answers the sum of the column
-// counts, or refuses, changing nothing, if the sets have no room for n.
+// Analyses the pattern of the entries, of order n: fills in the vertex records 1 to n and answers the sum of the
+// column counts, or refuses, changing nothing, if the sets have no room for n.
 pub fn analyse<S: AncestorSets>(
     n: u32,
     vertices: &mut [Vertex],

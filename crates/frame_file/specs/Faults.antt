@@ -1,4 +1,5 @@
--- What is reported of a fault of a run: its line, its field (0 for the whole line) and its number in the list of faults.
+-- What is reported of a fault of a run: its line, its field (0 for the whole line) and its number in the list of
+-- faults.
 use Prim.Native.Nat.{ℕ}
 use Rattle.model.specs.Refusals.{number-of}
 use Rattle.model.specs.declared.refusals.Refusal.{Refusal}

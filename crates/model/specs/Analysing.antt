@@ -33,8 +33,8 @@ pub record Analysed (s t : Store) (before after : Sets) (total : ℕ) : Type 0 w
   pub tall : length (now (t .vertices)) ≡ length (now (s .vertices))
   pub long : length (now (t .entries)) ≡ length (now (s .entries))
 
--- What the sets stand for after an analysis of the pattern p that answers r. Refused, what they stood for; accepted, the
--- vertices of p are in use and the top of each is the root of its tree.
+-- What the sets stand for after an analysis of the pattern p that answers r. Refused, what they stood for; accepted,
+-- the vertices of p are in use and the top of each is the root of its tree.
 pub record Sets-after (p : Pattern) (before after : Sets) (r : Result ℕ Refusal) : Type 0 where
   pub size : after .size ≡ before .size
   pub refused : isErr r ≡ true → Untouched before after

@@ -16,7 +16,8 @@ use Rattle.model.specs.declared.refusals.Refusal.the-variants.{OrderOutOfRange
 use Rattle.model.specs.declared.refusals.Refusal.the-variants.{VertexOutOfRange, EqualVertices, EntryHeld, ModelFull}
 use Rattle.model.specs.declared.refusals.Refusal.the-variants.{EntryNotHeld, NotAnalysed}
 
--- The entries are those held, the lower vertex first, in the order in which they were put. The empty model has order 0.
+-- The entries are those held, the lower vertex first, in the order in which they were put. The empty model has order
+-- 0.
 pub record State : Type 0 where
   pub order : ℕ
   pub capacity : ℕ

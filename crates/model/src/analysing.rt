@@ -18,8 +18,8 @@ use analysis::records::Vertex;
 use sets::AncestorSets;
 
 impl<'a> Store<'a> {
-    // Analyses the entries held, into the vertex table; answers the sum of the column counts, or `None` if the sets are
-    // too small, with nothing changed.
+    // Analyses the entries held, into the vertex table; answers the sum of the column counts, or `None` if the sets
+    // are too small, with nothing changed.
     pub(crate) fn analyse<S: AncestorSets>(&mut self, sets: &mut S) -> Option<u64>
         requires some { ⌜ 1 ≤ now self .order ⌝ }
         requires few { ⌜ now self .order ≤ 16384 ⌝ }

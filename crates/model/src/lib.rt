@@ -1,5 +1,5 @@
-// A model: a pattern of some order, its entries put and dropped one by one, and its analysis. Every call either answers
-// or is refused, and a refused call changes nothing.
+// A model: a pattern of some order, its entries put and dropped one by one, and its analysis. Every call either
+// answers or is refused, and a refused call changes nothing.
 mod analysing;
 mod changes;
 mod making;

@@ -1,4 +1,5 @@
--- Eliminating the vertices 1, 2, .., n in turn: what is joined after each, the fill, its rows and columns, and the parents.
+-- Eliminating the vertices 1, 2, .., n in turn: what is joined after each, the fill, its rows and columns, and the
+-- parents.
 use mathlib.Core.Bool.{Bool, true, false, not, _&&_, _||_}
 use mathlib.Core.List.{List}
 use Prim.Native.Nat.{ℕ, zero, suc}
@@ -7,7 +8,8 @@ use lib.ListN.{length}
 use Rattle.pattern.specs.Lists.{upto, keep, first, sum}
 use Rattle.pattern.specs.Patterns.{Pattern, shares}
 
--- a and b are joined once 1 to k are eliminated: eliminating v joins every two vertices above v that are then joined to v
+-- a and b are joined once 1 to k are eliminated: eliminating v joins every two vertices above v that are then joined
+-- to v
 unfoldable pub joined : Pattern → ℕ → ℕ → ℕ → Bool
 joined p zero a b = shares p a b
 joined p (suc k) a b =

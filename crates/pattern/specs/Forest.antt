@@ -1,4 +1,5 @@
--- Trees over the vertices 1 to n by a parent function, 0 at a root: the line to the root, subtrees, levels, the walk and places.
+-- Trees over the vertices 1 to n by a parent function, 0 at a root: the line to the root, subtrees, levels, the walk
+-- and places.
 use mathlib.Core.Bool.{Bool, true, false, cond}
 use mathlib.Core.List.{List, [], _∷_, _++_}
 use Prim.Native.Nat.{ℕ, zero, suc, _-_, _<_, _≤_}

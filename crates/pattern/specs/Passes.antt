@@ -1,5 +1,6 @@
--- The one pass over the vertices by place that finds row counts and weights. An event (x, u) is that x is met as a lower
--- neighbour of u. Events are listed from the newest to the oldest, so each definition says what one event more changes.
+-- The one pass over the vertices by place that finds row counts and weights. An event (x, u) is that x is met as a
+-- lower neighbour of u. Events are listed from the newest to the oldest, so each definition says what one event more
+-- changes.
 use mathlib.Core.Path.{_≡_}
 use mathlib.Core.Bool.{Bool, true, false, cond, _&&_, _||_}
 use mathlib.Core.List.{List, [], _∷_}

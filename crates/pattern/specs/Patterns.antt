@@ -1,5 +1,5 @@
--- A pattern: its order n and its entries, pairs of the vertices 1 to n. A pair may stand twice and either way round; one that
--- names no two different vertices of the pattern says nothing.
+-- A pattern: its order n and its entries, pairs of the vertices 1 to n. A pair may stand twice and either way round;
+-- one that names no two different vertices of the pattern says nothing.
 use mathlib.Core.Bool.{Bool, true, false, not, _&&_, _||_}
 use mathlib.Core.List.{List, [], _∷_}
 use Prim.Native.Nat.{ℕ}
