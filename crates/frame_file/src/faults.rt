@@ -41,8 +41,7 @@ fn field_of(refusal: Refusal) -> u8
         | Refusal::EntryHeld
         | Refusal::ModelFull
         | Refusal::EntryNotHeld
-        | Refusal::NotAnalysed
-        | Refusal::ArraysTooShort => 0,
+        | Refusal::NotAnalysed => 0,
     }
 }
 

@@ -29,10 +29,8 @@ pub enum Refusal {
     ModelFull,
     // the entry to drop is not held
     EntryNotHeld,
-    // a question or a structure call while the model is unanalysed
+    // a question while the model is unanalysed
     NotAnalysed,
-    // an array given to a structure call is too short for the structure
-    ArraysTooShort,
 }
 
 impl Refusal {
@@ -49,7 +47,6 @@ impl Refusal {
             Refusal::ModelFull => 13,
             Refusal::EntryNotHeld => 14,
             Refusal::NotAnalysed => 15,
-            Refusal::ArraysTooShort => 16,
         }
     }
 }
