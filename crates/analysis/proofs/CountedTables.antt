@@ -2,7 +2,7 @@
 use Rattle.std.proofs.Common.{◌≡◌, ℕ, zero, suc, ◌+◌, ◌-◌, ◌≤◌, Bool, true, false, cond, eqb, ◌≢◌, ◌⊎◌, List, [], ◌∷◌, length, set, ℤ, pos, negsuc, ◌+ℤ◌, ◌-ℤ◌, sym, refl, ap, ◌∙◌, subst, inl, inr, arith, w64}
 use Rattle.std.specs.Int.{int_wrap}
 use Rattle.std.proofs.lemmas.Int.{ints, int_wrap_fits, SFits-int_wrap, int_wrap-add_same}
-use Rattle.std.proofs.lemmas.List.{length_set, length-append}
+use Rattle.std.proofs.lemmas.List.{length-set, length-append}
 use Rattle.std.proofs.lemmas.Bool.{cases_eq, eq-eqb, ne_eqb, cond-true, cond-false}
 use Rattle.pattern.specs.Lists.{upto, keep}
 use Rattle.pattern.specs.Forest.{Grows, children}
@@ -104,12 +104,12 @@ module _ (n : ℕ) (vs cs ds ws : List Vertex) (x u q : ℕ) (row : (1 ≤ u) ×
   longer = with_last (with_rows (vertex vs u) ((vertex vs u).rows + ((vertex vs x).level - (vertex vs q).level))) x
 
   to_x : x ≤ length cs
-  to_x = let e = ap (λ t. length t) is_c ∙ length_set vs (u - 1) longer in let h = met.1 in omega arith
+  to_x = let e = ap (λ t. length t) is_c ∙ length-set vs (u - 1) longer in let h = met.1 in omega arith
 
   to_q : q ≤ length ds
   to_q =
-      let e = ap (λ t. length t) is_c ∙ length_set vs (u - 1) longer in
-      let f = ap (λ t. length t) is_d ∙ length_set cs (x - 1) _ in
+      let e = ap (λ t. length t) is_c ∙ length-set vs (u - 1) longer in
+      let f = ap (λ t. length t) is_d ∙ length-set cs (x - 1) _ in
       let h = top.1 in
       omega arith
 

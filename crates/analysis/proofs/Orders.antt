@@ -1,7 +1,7 @@
 -- The steps of the places, from n down to 1, and of the walk, with what they come to.
 use Rattle.std.proofs.Common.{◌≡◌, ℕ, zero, suc, ◌+◌, ◌-◌, ◌<◌, ◌≤◌, cond, eqb, ltb, ◌≢◌, List, length, set, sym, refl, ap, ◌∙◌, subst, inl, inr, arith}
-use Rattle.std.proofs.lemmas.Bool.{cases_eq, cond-true, cond-false, eq-eqb, ne_eqb, le_ltb}
-use Rattle.std.proofs.lemmas.List.{length_set}
+use Rattle.std.proofs.lemmas.Bool.{cases_eq, cond-true, cond-false, eq-eqb, ne_eqb, le-ltb}
+use Rattle.std.proofs.lemmas.List.{length-set}
 use Rattle.pattern.specs.Lists.{sum}
 use Rattle.pattern.specs.Patterns.{Pattern}
 use Rattle.pattern.specs.Elimination.{parent}
@@ -93,7 +93,7 @@ module _ (vs : List Vertex) (free x : ℕ) (from : 1 ≤ x) (to : x ≤ length v
   pub taken_parent : 1 ≤ parent_of vs x →
       vertex (taken vs free x) (parent_of vs x) ≡ with_last (vertex vs (parent_of vs x)) left
   taken_parent some =
-      let l = length_set vs (x - 1) own in
+      let l = length-set vs (x - 1) own in
       ap (λ t. vertex t (parent_of vs x)) (child (λ z. omega arith))
       ∙ vertex_same (placed_at vs x mine) (parent_of vs x) _ some (omega arith)
       ∙ ap (λ y. with_last y left) (vertex_other vs x (parent_of vs x) own from some apart)
@@ -169,7 +169,7 @@ module _ (n : ℕ) (up : ℕ → ℕ) (grows : Grows n up) where
       ap (sum f) (keep_none (λ d. ltb c d) (children n up x) (λ d o.
       let (k, e) = in_children n up grows d x o in
       let r = grows.rises d k.named k.fits (omega arith) in
-      le_ltb c d (omega arith)))
+      le-ltb c d (omega arith)))
 
   module _ (x free : ℕ) (vs : List Vertex) (from : 1 ≤ x) (to : x ≤ n) (past : PlacesPast n up x free vs) where
     here : math.Vertex n x

@@ -1,6 +1,6 @@
 -- The block that answers a line, and that every answer stands whole in its block.
 use Rattle.std.proofs.Common.{◌≡◌, ℕ, ◌≤◌, Bool, true, false, cond, ◌&&◌, eqb, ltb, leb, List, [], ◌∷◌, length, get_or, Some, None, Ok, Err, Option, Result, sym, refl, ap, ◌∙◌, subst, arith, lit≤, MatchResult}
-use Rattle.std.proofs.lemmas.Bool.{and_parts, leb_true}
+use Rattle.std.proofs.lemmas.Bool.{and_parts, leb-true}
 use Rattle.model.specs.Meaning.{meaning}
 use Rattle.model.specs.States.{State}
 use Rattle.model.specs.declared.models.Model.{Model}
@@ -49,7 +49,7 @@ short_fields kinds.Make i j =
     short_named (is_name i.bytes) (numbered j (Ok (makes i j))) (Err (Field (Name i.line i.number)))
     (λ e. short_numbered j (Ok (makes i j))
     (let n : ℕ = length i.bytes in
-    leb_true n 16 (and_parts (leb 1 n) (leb n 16) (and_parts (leb 1 n && leb n 16) (every name_byte i.bytes) e).0).1)) tt
+    leb-true n 16 (and_parts (leb 1 n) (leb n 16) (and_parts (leb 1 n && leb n 16) (every name_byte i.bytes) e).0).1)) tt
 short_fields kinds.Put i j = short_numbered i (numbered j (Ok (puts i j))) (short_numbered j (Ok (puts i j)) (lit≤ tt))
 short_fields kinds.Drop i j = short_numbered i (numbered j (Ok (drops i j))) (short_numbered j (Ok (drops i j)) (lit≤ tt))
 short_fields kinds.Analyse i j = lit≤ tt

@@ -2,7 +2,7 @@
 use Rattle.std.proofs.Common.{◌≡◌, ℕ, zero, suc, ◌+◌, ◌-◌, ◌*◌, ◌^◌, ◌<◌, ◌≤◌, Bool, true, false, cond, ◌&&◌, eqb, leb, List, [], ◌∷◌, length, get_or, drop, sym, refl, ap, ◌∙◌, add-one, arith, lit<}
 use native.Mathlib.Nat.{pow-succ', pow-le-pow_right}
 use Rattle.std.proofs.lemmas.List.{at_drop_more}
-use Rattle.std.proofs.lemmas.Bool.{eq-eqb, ne_eqb, and_parts, leb_true}
+use Rattle.std.proofs.lemmas.Bool.{eq-eqb, ne_eqb, and_parts, leb-true}
 use Rattle.std.specs.Char.{is_ascii_digit}
 use Rattle.frame_text.specs.Fields.{before, every, read_on}
 
@@ -32,7 +32,7 @@ every_at test [] i l all = absurd (omega arith)
 
 pub digit_bounds : (b : ℕ) → is_ascii_digit b ≡ true → (48 ≤ b) × (b ≤ 57)
 digit_bounds b d =
-    let both = and_parts (leb 48 b) (leb b 57) d in (leb_true 48 b both.0, leb_true b 57 both.1)
+    let both = and_parts (leb 48 b) (leb b 57) d in (leb-true 48 b both.0, leb-true b 57 both.1)
 
 -- one digit more is one power of ten more
 pub ten_more : (n d i : ℕ) → n < 10 ^ i → d ≤ 9 → n * 10 + d < 10 ^ (i + 1)

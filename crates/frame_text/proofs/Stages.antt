@@ -1,7 +1,7 @@
 -- The stages of a line's reading, as the code takes them.
 use Rattle.std.proofs.Common.{◌≡◌, ℕ, suc, ◌+◌, ◌<◌, ◌≤◌, Bool, true, false, cond, eqb, ltb, List, [], ◌∷◌, length, get_or, take, drop, Some, None, Ok, Err, Option, Result, sym, refl, ap, ◌∙◌, inl, inr, add-one, arith}
 use Rattle.std.specs.Result.{result_map_both}
-use Rattle.std.proofs.lemmas.Bool.{ne_eqb, le_ltb, cond-false, cases_eq, cases_Bool}
+use Rattle.std.proofs.lemmas.Bool.{ne_eqb, le-ltb, cond-false, cases_eq, cases_Bool}
 use Rattle.std.proofs.lemmas.Bool.Decides.{nat_tests}
 use Rattle.frame_text.specs.declared.faults.FieldFault.{FieldFault}
 use Rattle.frame_text.specs.declared.faults.LineFault.{LineFault}
@@ -176,4 +176,4 @@ no_letter line (b ∷ c ∷ bs) long other =
 
 pub whole_line : (line : ℕ) (bs : List ℕ) (ended : Bool) → length bs ≤ 64 → ended ≡ true →
     by_letter line (fields bs) ≡ reading line bs ended
-whole_line line bs ended short lf = rw (le_ltb 64 (length bs) short, lf)
+whole_line line bs ended short lf = rw (le-ltb 64 (length bs) short, lf)

@@ -1,7 +1,7 @@
 -- What an analysis makes of a store and of a model.
 use Rattle.std.proofs.Common.{◌≡◌, ℕ, zero, suc, ◌-◌, ◌<◌, ◌≤◌, min, Bool, true, false, ◌&&◌, ltb, leb, List, [], ◌∷◌, ◌++◌, length, get_or, take, drop, Some, None, Ok, Err, Option, sym, refl, ap, ◌∙◌, subst, arith, MatchOption}
 use Rattle.std.proofs.lemmas.List.{take-append-drop, take_at, length-append, length-take-le}
-use Rattle.std.proofs.lemmas.Bool.{and_parts, leb_true, ltb-true, ne_eqb, lt_ltb, le_ltb}
+use Rattle.std.proofs.lemmas.Bool.{and_parts, leb-true, ltb-true, ne_eqb, lt-ltb, le-ltb}
 use Rattle.pattern.specs.Elimination.{total}
 use Rattle.sets.specs.Meaning.{Sets}
 use Rattle.analysis.specs.Analysed as analysis
@@ -26,7 +26,7 @@ sound_from n (e ∷ ps) all zero less =
     let (here, there) = and_parts ((leb 1 e.0 && ltb e.0 e.1) && leb e.1 n) (all_within n ps) all in
     let (low, most) = and_parts (leb 1 e.0 && ltb e.0 e.1) (leb e.1 n) here in
     let (one, rise) = and_parts (leb 1 e.0) (ltb e.0 e.1) low in
-    record { from = leb_true _ _ one; rises = ltb-true _ _ rise; within = leb_true _ _ most }
+    record { from = leb-true _ _ one; rises = ltb-true _ _ rise; within = leb-true _ _ most }
 sound_from n (e ∷ ps) all (suc k) less =
     let (here, there) = and_parts ((leb 1 e.0 && ltb e.0 e.1) && leb e.1 n) (all_within n ps) all in
     sound_from n ps there k (omega arith)
@@ -163,11 +163,11 @@ pub analyse_refused : (m n : Model) (before after : Sets) (x : ℕ) → (m.store
 analyse_refused m n before after x some is =
     subst (λ (after : Model). Outcome (Analyse before.size) m after x (Err SetsTooSmall))
     (same_model m n (sym is.store))
-    (refused _ m x _ (analyse_first m before.size true some (lt_ltb _ _ is.narrow)))
+    (refused _ m x _ (analyse_first m before.size true some (lt-ltb _ _ is.narrow)))
 
 pub analyse_carried : (m n : Model) (t : Store) (before after : Sets) (sum : ℕ) → (m.store.order ≡ 0 → ⊥) →
     Analysed m.store t before after sum → n.store ≡ marked t sum →
     Outcome (Analyse before.size) m n (total (pattern_in (meaning m))) (Ok sum)
 analyse_carried m n t before after sum some is turned =
-    carried _ m n _ _ (analyse_first m before.size false some (le_ltb _ _ is.found.room))
+    carried _ m n _ _ (analyse_first m before.size false some (le-ltb _ _ is.found.room))
     (ap means turned ∙ analysed_turned m t before after sum is) is.found.sums

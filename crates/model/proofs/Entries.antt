@@ -4,7 +4,7 @@ use lib.Seq.{paste}
 use Rattle.std.specs.List.{remove}
 use Rattle.std.proofs.lemmas.List.{at_drop_more, at_drop_all, take-take, drop-take, length-drop}
 use Rattle.std.proofs.lemmas.List.Edits.{take-paste}
-use Rattle.std.proofs.lemmas.Bool.{and_parts, and_from, and_left, and_right, cases_Bool, cond-true, cond-false, eq-eqb, ne_eqb, or_parts, or_from, leb_true, ltb-true, not-true}
+use Rattle.std.proofs.lemmas.Bool.{and_parts, and_from, and_left, and_right, cases_Bool, cond-true, cond-false, eq-eqb, ne_eqb, or_parts, or_from, leb-true, ltb-true, not-true}
 use Rattle.std.proofs.lemmas.Bool.Decides.{nat_tests}
 use Rattle.analysis.specs.declared.records.Entry.{Entry}
 use Rattle.analysis.specs.Tables.{pair_of, pairs_of, no_entry}
@@ -52,7 +52,7 @@ none_within (e ∷ es) all =
     let (here, there) = and_parts (Sound 0 e) (all_within 0 es) all in
     let (low, most) = and_parts (leb 1 e.0 && ltb e.0 e.1) (leb e.1 0) here in
     let less = ltb-true _ _ (and_parts (leb 1 e.0) (ltb e.0 e.1) low).1 in
-    absurd (omega (arith, leb_true _ _ most))
+    absurd (omega (arith, leb-true _ _ most))
 
 listed_push : (es : List (ℕ × ℕ)) (e : ℕ × ℕ) (a b : ℕ) → listed es a b ≡ false → same_entry a b e ≡ false →
     listed (es ++ e ∷ []) a b ≡ false

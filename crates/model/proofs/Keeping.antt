@@ -3,7 +3,7 @@ use Rattle.std.proofs.Common.{◌≡◌, ℕ, ◌+◌, ◌≤◌, Bool, true, fa
 use mathlib.Core.HLevel.{is_prop→PathP}
 use denote.Struct.Props.{props}
 use denote.Struct.Record.{Also-prop, Done-prop}
-use Rattle.std.proofs.lemmas.Bool.{and_parts, leb_true}
+use Rattle.std.proofs.lemmas.Bool.{and_parts, leb-true}
 use Rattle.analysis.specs.Analysed.{Answered}
 use Rattle.pattern.specs.Analysis.{place_of, first_place_of, height_of}
 use Rattle.pattern.specs.Elimination.{parent, row_count, col_count, total}
@@ -118,7 +118,7 @@ unfound t fresh = (
 pub within_from : (n v : ℕ) → within n v ≡ true → (1 ≤ v) × (v ≤ n)
 unfolding within
 within_from n v in-range =
-    let (one, most) = and_parts _ _ in-range in (leb_true 1 v one, leb_true v n most)
+    let (one, most) = and_parts _ _ in-range in (leb-true 1 v one, leb-true v n most)
 
 -- an analysis of the pattern held gives them
 pub found_by : (t : Store) (p : Pattern) → pattern_in (means t) ≡ p → Answered p t.vertices.now →

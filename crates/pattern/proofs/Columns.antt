@@ -1,6 +1,6 @@
 -- The structure in columns: a column is its vertex and the rows above it, and the rows stand column after column.
 use Rattle.std.proofs.Common.{◌≡◌, ℕ, zero, suc, ◌+◌, ◌-◌, ◌<◌, ◌≤◌, ◌&&◌, ltb, ◌∷◌, ◌++◌, length, get_or, take, drop, refl, ap, ◌∙◌, subst, ap₂, arith}
-use Rattle.std.proofs.lemmas.Bool.{and_left, le_ltb}
+use Rattle.std.proofs.lemmas.Bool.{and_left, le-ltb}
 use Rattle.std.proofs.lemmas.List.{length-append, length-map, get_or-map, take_at, drop_at}
 use Rattle.pattern.specs.Lists.{upto, each, sum}
 use Rattle.pattern.specs.Patterns.{Pattern}
@@ -13,7 +13,7 @@ module _ (p : Pattern) where
   pub col_is : (v : ℕ) → Vertex p.order v → col p v ≡ v ∷ higher p v
   unfolding col higher
   col_is v vv =
-      keep_own (λ u. ltb v u && fill p v u) v vv.named (λ x le. and_left _ _ (le_ltb v x le)) p.order vv.fits
+      keep_own (λ u. ltb v u && fill p v u) v vv.named (λ x le. and_left _ _ (le-ltb v x le)) p.order vv.fits
 
   pub higher_count : (v : ℕ) → Vertex p.order v → col_count p v ≡ suc (length (higher p v))
   unfolding col_count

@@ -2,7 +2,7 @@
 -- summed over the rows the column.
 use Rattle.std.proofs.Common.{◌≡◌, ℕ, ◌+◌, ◌*◌, ◌<◌, ◌≤◌, Bool, true, false, cond, ◌&&◌, ◌||◌, eqb, ltb, ◌⊎◌, List, [], ◌∷◌, length, ℤ, pos, ◌-ℤ◌, sym, refl, ap, ◌∙◌, subst, inl, inr, arith}
 use Rattle.std.proofs.lemmas.Int.{ints}
-use Rattle.std.proofs.lemmas.Bool.{cases_Bool, cases_eq, cases_lt, both_ways, false≢true, or_cases, or_left, or_right, and_parts, and_from, eqb-true, eq-eqb, lt_ltb, ltb-true}
+use Rattle.std.proofs.lemmas.Bool.{cases_Bool, cases_eq, cases_lt, both_ways, false≢true, or_cases, or_left, or_right, and_parts, and_from, eqb-true, eq-eqb, lt-ltb, ltb-true}
 use Rattle.std.proofs.lemmas.List.{length-append}
 use Rattle.std.proofs.lemmas.Bool.Decides.{nat_tests}
 use Rattle.pattern.specs.Lists.{upto, occurs, sum}
@@ -176,7 +176,7 @@ module _ (p : Pattern) where
                     reach (inr m) (inr d) =
                         let le = under_le n (parent p) grows v u below in
                         let less : v < u = omega arith in
-                        and_from _ _ (lt_ltb v u less) (touches_fill p v u x less t (from.lower x m).1)
+                        and_from _ _ (lt-ltb v u less) (touches_fill p v u x less t (from.lower x m).1)
 
             outof : (ltb v u && fill p v u) ≡ true → any (λ x. in_subtree p x v) (stops l u) ≡ true
             outof both =
@@ -283,7 +283,7 @@ module _ (p : Pattern) where
     covers = λ y less s.
         let g = (shares_parts p y u s).0.left in (
           y,
-          keep_occurs test y all ∙ and_from _ _ (and_from _ _ (lt_ltb y u less) s) (on_walk n (parent p) grows y g),
+          keep_occurs test y all ∙ and_from _ _ (and_from _ _ (lt-ltb y u less) s) (on_walk n (parent p) grows y g),
           under_self n (parent p) grows y g,
         );
   }

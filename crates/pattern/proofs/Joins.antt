@@ -1,6 +1,6 @@
 -- What one elimination joins, and the laws of the fill that need nothing else.
 use Rattle.std.proofs.Common.{◌≡◌, ℕ, zero, suc, ◌<◌, ◌≤◌, Bool, true, false, not, ◌&&◌, ◌||◌, eqb, ltb, ◌⊎◌, List, [], ◌∷◌, sym, refl, ◌∙◌, subst, inl, inr, arith}
-use Rattle.std.proofs.lemmas.Bool.{cases_eq, or_cases, or_left, or_right, eqb-false, ne_eqb, and_parts, and_from, not-true, not_from_false, ltb-true, lt_ltb}
+use Rattle.std.proofs.lemmas.Bool.{cases_eq, or_cases, or_left, or_right, eqb-false, ne_eqb, and_parts, and_from, not-true, not_from_false, ltb-true, lt-ltb}
 use Rattle.pattern.specs.Patterns.{Pattern, same_entry, listed, shares}
 use Rattle.pattern.specs.Elimination.{joined, fill}
 use Rattle.pattern.proofs.Tests.{Vertex, within_parts, within_from}
@@ -91,7 +91,7 @@ module _ (p : Pattern) where
   unfolding joined
   joined_now k a b j =
       or_right _ _
-      (and_from _ _ (and_from _ _ (lt_ltb _ _ j.a-above) (lt_ltb _ _ j.b-above))
+      (and_from _ _ (and_from _ _ (lt-ltb _ _ j.a-above) (lt-ltb _ _ j.b-above))
       (and_from _ _ (not_from_false _ (ne_eqb a b j.apart)) (and_from _ _ j.at_a j.at_b)))
 
   pub joined_start : (a b : ℕ) → shares p a b ≡ joined p 0 a b

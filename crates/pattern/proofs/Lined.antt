@@ -1,6 +1,6 @@
 -- Ways as lists of vertices, the form in which paths are stated, and back.
 use Rattle.std.proofs.Common.{◌≡◌, ℕ, ◌<◌, ◌≤◌, true, List, [], ◌∷◌, length, sym, refl, subst, arith}
-use Rattle.std.proofs.lemmas.Bool.{and_parts, and_from, ltb-true, lt_ltb}
+use Rattle.std.proofs.lemmas.Bool.{and_parts, and_from, ltb-true, lt-ltb}
 use Rattle.pattern.specs.Patterns.{Pattern, shares}
 use Rattle.pattern.specs.Paths.{start, end, front, inner, all_under, linked, Leads}
 use Rattle.pattern.proofs.Paths.{Way, edge, hop}
@@ -27,7 +27,7 @@ module _ (p : Pattern) (m : ℕ) where
           to = leads.to;
           sharing = and_from _ _ (subst (λ t. shares p a t ≡ true) (sym same) s) leads.sharing;
         };
-        low = and_from _ _ (lt_ltb y m (omega (arith, same, low))) rest;
+        low = and_from _ _ (lt-ltb y m (omega (arith, same, low))) rest;
       }
 
   pub listed_way : {b a : ℕ} → Way p m b a → Listed a b
@@ -70,4 +70,4 @@ module _ (p : Pattern) (m : ℕ) where
   unfolding start front inner all_under
   low_front [] long first low = absurd (omega (arith, long))
   low_front (x ∷ []) long first low = absurd (omega (arith, long))
-  low_front (x ∷ y ∷ l) long first low = and_from _ _ (lt_ltb x m first) low
+  low_front (x ∷ y ∷ l) long first low = and_from _ _ (lt-ltb x m first) low

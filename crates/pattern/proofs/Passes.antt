@@ -1,6 +1,6 @@
 -- The pass by place: what one event more changes, what was met last, and where the path from a new one joins its row.
 use Rattle.std.proofs.Common.{◌≡◌, ℕ, suc, ◌+◌, ◌-◌, ◌<◌, ◌≤◌, true, false, cond, ◌&&◌, ◌||◌, eqb, leb, ◌⊎◌, List, [], ◌∷◌, ◌++◌, length, ℤ, pos, ◌+ℤ◌, ◌-ℤ◌, sym, refl, ap, ◌∙◌, subst, inl, inr, arith}
-use Rattle.std.proofs.lemmas.Bool.{cases_eq, cases_lt, both_ways, or_cases, or_left, or_right, or_from, and_parts, and_from, and_right, cond-true, cond-false, eqb-true, eq-eqb, ne_eqb, leb_true, le_leb}
+use Rattle.std.proofs.lemmas.Bool.{cases_eq, cases_lt, both_ways, or_cases, or_left, or_right, or_from, and_parts, and_from, and_right, cond-true, cond-false, eqb-true, eq-eqb, ne_eqb, leb-true, le-leb}
 use Rattle.pattern.specs.Patterns.{Pattern, shares}
 use Rattle.pattern.specs.Elimination.{parent}
 use Rattle.pattern.specs.Forest.{children}
@@ -136,11 +136,11 @@ module _ (p : Pattern) where
           (by_place p ((z, t) ∷ es) ≡ true → (y w : ℕ) → happened y w es ≡ true → place_of p y ≤ place_of p z) →
           place_of p y ≤ place_of p x
       go (l, s) (inl (e, _)) i =
-          let a = leb_true (place_of p z) (place_of p x) l in
+          let a = leb-true (place_of p z) (place_of p x) l in
           let c = ap (place_of p) e in
           omega arith
       go (l, s) (inr m) i =
-          let a = leb_true (place_of p z) (place_of p x) l in
+          let a = leb-true (place_of p z) (place_of p x) l in
           let c = i s y w m in
           omega arith
 
@@ -149,7 +149,7 @@ module _ (p : Pattern) where
   unfolding by_place
   placed_more x u [] b le = refl
   placed_more x u ((z, t) ∷ es) b le =
-      and_from _ _ (le_leb (place_of p z) (place_of p x) (le z t (happened_now z t es))) b
+      and_from _ _ (le-leb (place_of p z) (place_of p x) (le z t (happened_now z t es))) b
 
   pub passing_none : Passing p []
   unfolding by_place

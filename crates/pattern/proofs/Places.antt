@@ -1,6 +1,6 @@
 -- Places: the subtree of a vertex takes an interval of them that ends at its own, and siblings follow one another.
 use Rattle.std.proofs.Common.{◌≡◌, ℕ, zero, suc, ◌+◌, ◌-◌, ◌<◌, ◌≤◌, true, false, cond, eqb, ltb, ◌⊎◌, List, [], ◌∷◌, ◌++◌, length, get_or, sym, refl, ap, ◌∙◌, inl, inr, arith}
-use Rattle.std.proofs.lemmas.Bool.{cases_Bool, and_parts, or_left, or_right, le_ltb, cond-true, eq-eqb}
+use Rattle.std.proofs.lemmas.Bool.{cases_Bool, and_parts, or_left, or_right, le-ltb, cond-true, eq-eqb}
 use Rattle.std.proofs.lemmas.Bool.Decides.{nat_tests}
 use Rattle.std.proofs.lemmas.List.{append_assoc, length-append}
 use Rattle.pattern.specs.Lists.{upto, sum, occurs, each, position, greatest}
@@ -239,7 +239,7 @@ module _ (n : ℕ) (up : ℕ → ℕ) (grows : Grows n up) where
   pub above_none : (v : ℕ) → above n up v n ≡ []
   unfolding above
   above_none v = keep_none (λ d. ltb n d) (children n up v) (λ d o.
-      le_ltb n d (in_children n up grows d v o).0.fits)
+      le-ltb n d (in_children n up grows d v o).0.fits)
 
   above_falls : (f : ℕ → ℕ) (v c e : ℕ) → c ≤ e → sum f (above n up v e) ≤ sum f (above n up v c)
   unfolding above

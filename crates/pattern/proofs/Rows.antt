@@ -1,7 +1,7 @@
 -- Rows as subtrees, columns by children, counts by rows, and what more entries change.
 use Rattle.std.proofs.Common.{◌≡◌, ℕ, zero, suc, ◌<◌, ◌≤◌, Bool, true, false, cond, ◌&&◌, ◌||◌, eqb, ltb, ◌⊎◌, List, length, sym, refl, ap, ◌∙◌, subst, inl, inr, arith}
 use mathlib.Core.Path.{fun_ext}
-use Rattle.std.proofs.lemmas.Bool.{and_parts, and_from, lt_ltb}
+use Rattle.std.proofs.lemmas.Bool.{and_parts, and_from, lt-ltb}
 use Rattle.pattern.specs.Lists.{upto, keep, occurs, sum}
 use Rattle.pattern.specs.Patterns.{Pattern, listed, shares}
 use Rattle.pattern.specs.Elimination.{joined, fill, row, col, row_count, col_count, total, parent}
@@ -34,7 +34,7 @@ module _ (p : Pattern) where
   pub row_has : (v u : ℕ) → v < u → fill p v u ≡ true → occurs v (row p u) ≡ true
   unfolding row
   row_has v u less e =
-      own_has p.order u (λ x. ltb x u) (λ x. fill p x u) v (lt_ltb v u less) e (fill_ends p v u e).left
+      own_has p.order u (λ x. ltb x u) (λ x. fill p x u) v (lt-ltb v u less) e (fill_ends p v u e).left
 
   pub in_col : (v u : ℕ) → v < u → occurs u (col p v) ≡ true → fill p v u ≡ true
   unfolding col
@@ -44,7 +44,7 @@ module _ (p : Pattern) where
   pub col_has : (v u : ℕ) → v < u → fill p v u ≡ true → occurs u (col p v) ≡ true
   unfolding col
   col_has v u less e =
-      own_has p.order v (λ x. ltb v x) (λ x. fill p v x) u (lt_ltb v u less) e (fill_ends p v u e).right
+      own_has p.order v (λ x. ltb v x) (λ x. fill p v x) u (lt-ltb v u less) e (fill_ends p v u e).right
 
   -- of v's subtree, one shares an entry with u
   pub record Touches (v u : ℕ) : Type 0 where

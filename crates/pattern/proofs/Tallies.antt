@@ -1,6 +1,6 @@
 -- Sums over lists of vertices, how often a number is one of them, and where it stands.
 use Rattle.std.proofs.Common.{◌≡◌, ℕ, zero, suc, ◌+◌, ◌*◌, ◌<◌, ◌≤◌, min, max, Bool, true, false, cond, eqb, ltb, ◌⊎◌, List, [], ◌∷◌, ◌++◌, length, get_or, sym, refl, ap, ◌∙◌, ap₂, inl, inr, arith}
-use Rattle.std.proofs.lemmas.Bool.{cases_Bool, cases_eq, cases_lt, lt_ltb, le_ltb, false≢true, or_left, or_right, eq-eqb, ne_eqb, cond-true, cond-false}
+use Rattle.std.proofs.lemmas.Bool.{cases_Bool, cases_eq, cases_lt, lt-ltb, le-ltb, false≢true, or_left, or_right, eq-eqb, ne_eqb, cond-true, cond-false}
 use Rattle.std.proofs.lemmas.List.{append_assoc}
 use Rattle.std.proofs.lemmas.Bool.Decides.{nat_tests, eqb_tells}
 use Rattle.pattern.specs.Lists.{upto, keep, occurs, position, each, sum, least, greatest}
@@ -193,14 +193,14 @@ upto_cut (suc n) c l = go (cases_lt c n) (upto_cut n c)
   where
     go : (c < n) ⊎ (n ≤ c) → (suc c ≤ n → upto n ≡ upto c ++ suc c ∷ keep (λ d. ltb (suc c) d) (upto n)) →
         upto n ++ suc n ∷ [] ≡ upto c ++ suc c ∷ keep (λ d. ltb (suc c) d) (upto n ++ suc n ∷ [])
-    go (inl m) i = rw (keep_append (λ d. ltb (suc c) d) (upto n) (suc n ∷ []), lt_ltb (suc c) (suc n) (omega arith))
+    go (inl m) i = rw (keep_append (λ d. ltb (suc c) d) (upto n) (suc n ∷ []), lt-ltb (suc c) (suc n) (omega arith))
         (ap (λ l. l ++ suc n ∷ []) (i m) ∙ append_assoc (upto c) _ _)
     go (inr m) i =
         let e : c ≡ n = omega arith in
         rw (
           e,
           keep_none (λ d. ltb (suc n) d) (upto n ++ suc n ∷ []) (λ d o.
-              le_ltb (suc n) d (let h = (in_upto (suc n) d (unfold upto in o)).fits in omega arith)),
+              le-ltb (suc n) d (let h = (in_upto (suc n) d (unfold upto in o)).fits in omega arith)),
         ) refl
 
 -- the least and the greatest value over a list

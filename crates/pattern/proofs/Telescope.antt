@@ -1,6 +1,6 @@
 -- Members with a property that stand together are as many as the neighbours that both have it, and one more.
 use Rattle.std.proofs.Common.{◌≡◌, ℕ, suc, ◌+◌, ◌-◌, ◌<◌, ◌≤◌, Bool, true, false, cond, ◌&&◌, ◌||◌, eqb, leb, ◌⊎◌, List, [], ◌∷◌, ◌++◌, length, sym, refl, ap, ◌∙◌, subst, inl, inr, arith}
-use Rattle.std.proofs.lemmas.Bool.{cases_Bool, both_ways, false≢true, or_cases, or_left, or_right, or_from, or_parts, and_parts, and_from, eqb-true, eq-eqb, leb_true, le_leb}
+use Rattle.std.proofs.lemmas.Bool.{cases_Bool, both_ways, false≢true, or_cases, or_left, or_right, or_from, or_parts, and_parts, and_from, eqb-true, eq-eqb, leb-true, le-leb}
 use Rattle.pattern.specs.Lists.{sum, occurs, position, keep}
 use Rattle.pattern.specs.Counts.{between, unfalling}
 use Rattle.pattern.proofs.Lists.{occurs_append, keep_occurs, sum_append}
@@ -51,7 +51,7 @@ pub unfalling_more : (f : ℕ → ℕ) (x : ℕ) (xs : List ℕ) → unfalling f
     ((y : ℕ) → occurs y xs ≡ true → f x ≤ f y) → unfalling f (x ∷ xs) ≡ true
 unfolding unfalling occurs
 unfalling_more f x [] r le = refl
-unfalling_more f x (y ∷ xs) r le = and_from _ _ (le_leb (f x) (f y) (le y (or_left _ _ (eq-eqb y y refl)))) r
+unfalling_more f x (y ∷ xs) r le = and_from _ _ (le-leb (f x) (f y) (le y (or_left _ _ (eq-eqb y y refl)))) r
 
 pub unfalling_rest : (f : ℕ → ℕ) (x : ℕ) (xs : List ℕ) → unfalling f (x ∷ xs) ≡ true → unfalling f xs ≡ true
 unfolding unfalling
@@ -66,14 +66,14 @@ unfalling_first f x (z ∷ xs) r y o = go (and_parts _ _ r) (or_cases _ _ o) (un
   where
     go : (leb (f x) (f z) ≡ true) × (unfalling f (z ∷ xs) ≡ true) → (eqb z y ≡ true) ⊎ (occurs y xs ≡ true) →
         (unfalling f (z ∷ xs) ≡ true → (y : ℕ) → occurs y xs ≡ true → f z ≤ f y) → f x ≤ f y
-    go (l, s) (inl e) i = let a = leb_true (f x) (f z) l in let b = ap f (eqb-true z y e) in omega arith
-    go (l, s) (inr m) i = let a = leb_true (f x) (f z) l in let b = i s y m in omega arith
+    go (l, s) (inl e) i = let a = leb-true (f x) (f z) l in let b = ap f (eqb-true z y e) in omega arith
+    go (l, s) (inr m) i = let a = leb-true (f x) (f z) l in let b = i s y m in omega arith
 
 pub unfalling_push : (f : ℕ → ℕ) (u : ℕ) (xs : List ℕ) → unfalling f xs ≡ true →
     ((x : ℕ) → occurs x xs ≡ true → f x ≤ f u) → unfalling f (xs ++ u ∷ []) ≡ true
 unfolding unfalling occurs
 unfalling_push f u [] r le = refl
-unfalling_push f u (x ∷ []) r le = and_from _ _ (le_leb (f x) (f u) (le x (or_left _ _ (eq-eqb x x refl)))) refl
+unfalling_push f u (x ∷ []) r le = and_from _ _ (le-leb (f x) (f u) (le x (or_left _ _ (eq-eqb x x refl)))) refl
 unfalling_push f u (x ∷ y ∷ xs) r le =
     let (a, b) = and_parts _ _ r in
     and_from _ _ a (unfalling_push f u (y ∷ xs) b (λ z o. le z (or_right _ _ o)))

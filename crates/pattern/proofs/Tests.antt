@@ -1,6 +1,6 @@
 -- What the tests on vertices and entries say.
 use Rattle.std.proofs.Common.{◌≡◌, ℕ, suc, ◌≤◌, Bool, true, false, eqb, ◌⊎◌, sym, refl, inl, inr, arith}
-use Rattle.std.proofs.lemmas.Bool.{and_parts, and_from, leb_true, le_leb, cases_eq, cases_Bool}
+use Rattle.std.proofs.lemmas.Bool.{and_parts, and_from, leb-true, le-leb, cases_eq, cases_Bool}
 use Rattle.std.proofs.lemmas.Bool.Decides.{nat_tests}
 use Rattle.pattern.specs.Patterns.{within}
 
@@ -12,11 +12,11 @@ pub within_parts : (n v : ℕ) → within n v ≡ true → Vertex n v
 unfolding within
 within_parts n v e =
     let (low, high) = and_parts _ _ e in
-    record { named = leb_true 1 v low; fits = leb_true v n high }
+    record { named = leb-true 1 v low; fits = leb-true v n high }
 
 pub within_from : (n v : ℕ) → Vertex n v → within n v ≡ true
 unfolding within
-within_from n v h = and_from _ _ (le_leb 1 v h.named) (le_leb v n h.fits)
+within_from n v h = and_from _ _ (le-leb 1 v h.named) (le-leb v n h.fits)
 
 pub outside : (n v : ℕ) → (Vertex n v → ⊥) → within n v ≡ false
 outside n v not-one = go (cases_Bool (within n v))

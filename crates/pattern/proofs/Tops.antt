@@ -1,6 +1,6 @@
 -- The tops of the pass by place: at first each vertex itself, at the end its root, in between the meeting vertices.
 use Rattle.std.proofs.Common.{◌≡◌, ℕ, suc, ◌-◌, ◌<◌, ◌≤◌, true, false, cond, not, ◌&&◌, ◌||◌, eqb, ltb, ◌⊎◌, sym, ap, ◌∙◌, inl, inr, arith}
-use Rattle.std.proofs.lemmas.Bool.{cases_Bool, cases_eq, cases_lt, both_ways, and_left, and_right, and_from, or_left, or_right, or_from, cond-true, cond-false, lt_ltb, le_ltb, eq-eqb, ne_eqb}
+use Rattle.std.proofs.lemmas.Bool.{cases_Bool, cases_eq, cases_lt, both_ways, and_left, and_right, and_from, or_left, or_right, or_from, cond-true, cond-false, lt-ltb, le-ltb, eq-eqb, ne_eqb}
 use Rattle.pattern.specs.Lists.{first}
 use Rattle.pattern.specs.Forest.{Grows, under, place}
 use Rattle.pattern.specs.Meets.{meet}
@@ -20,7 +20,7 @@ module _ (n : ℕ) (up : ℕ → ℕ) (grows : Grows n up) where
   top_more t x h = ap (first (λ y. ltb t (place n up y) || eqb (up y) 0)) (line_more n up grows x h)
 
   pub top_here : (t x : ℕ) → Vertex n x → t < place n up x → top_after n up t x ≡ x
-  top_here t x h less = top_more t x h ∙ cond-true _ _ _ (or_left _ _ (lt_ltb t (place n up x) less))
+  top_here t x h less = top_more t x h ∙ cond-true _ _ _ (or_left _ _ (lt-ltb t (place n up x) less))
 
   pub top_root : (t x : ℕ) → Vertex n x → up x ≡ 0 → top_after n up t x ≡ x
   top_root t x h e = top_more t x h ∙ cond-true _ _ _ (or_right (ltb t (place n up x)) _ (eq-eqb (up x) 0 e))
@@ -28,7 +28,7 @@ module _ (n : ℕ) (up : ℕ → ℕ) (grows : Grows n up) where
   pub top_higher : (t x : ℕ) → Vertex n x → place n up x ≤ t → 1 ≤ up x → top_after n up t x ≡ top_after n up t (up x)
   top_higher t x h passed l =
       top_more t x h
-      ∙ cond-false _ _ _ (or_from _ _ (le_ltb t (place n up x) passed) (ne_eqb (up x) 0 (λ e. omega arith)))
+      ∙ cond-false _ _ _ (or_from _ _ (le-ltb t (place n up x) passed) (ne_eqb (up x) 0 (λ e. omega arith)))
 
   pub root_more : (x : ℕ) → Vertex n x → root n up x ≡ cond (eqb (up x) 0) x (root n up (up x))
   unfolding root first

@@ -1,6 +1,6 @@
 -- The tree of the parents: each parent is the smallest, what is below is paths, and ancestors follow the fill.
 use Rattle.std.proofs.Common.{◌≡◌, ℕ, zero, suc, ◌+◌, ◌<◌, ◌≤◌, true, ◌&&◌, ltb, ◌⊎◌, sym, refl, subst, inl, inr, arith}
-use Rattle.std.proofs.lemmas.Bool.{cases_eq, and_parts, and_from, both_ways, ltb-true, lt_ltb, not-true, not_from_false, eqb-false, ne_eqb}
+use Rattle.std.proofs.lemmas.Bool.{cases_eq, and_parts, and_from, both_ways, ltb-true, lt-ltb, not-true, not_from_false, eqb-false, ne_eqb}
 use Rattle.pattern.specs.Patterns.{Pattern}
 use Rattle.pattern.specs.Elimination.{fill, parent}
 use Rattle.pattern.specs.Forest.{Grows}
@@ -29,14 +29,14 @@ module _ (p : Pattern) where
       go : (u : ℕ) → First p.order (λ w. ltb v w && fill p v w) u →
           RootOr p v u
       go u (nothing none) =
-          inl (refl, λ w less e. both_ways _ (none w (fill_ends p v w e).right) (and_from _ _ (lt_ltb v w less) e))
+          inl (refl, λ w less e. both_ways _ (none w (fill_ends p v w e).right) (and_from _ _ (lt-ltb v w less) e))
       go u (found _ vu passes least) =
           let (high, joins) = and_parts _ _ passes in
           inr
           (record {
             above = ltb-true v u high;
             joins = joins;
-            smallest = λ w less e. least w (fill_ends p v w e).right (and_from _ _ (lt_ltb v w less) e);
+            smallest = λ w less e. least w (fill_ends p v w e).right (and_from _ _ (lt-ltb v w less) e);
           })
 
   pub parent_is : (v : ℕ) → 1 ≤ parent p v → IsParent p v (parent p v)

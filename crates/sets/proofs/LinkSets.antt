@@ -1,5 +1,5 @@
 -- Sets by links: what their structs keep, and what each call owes.
-use Rattle.std.proofs.Common.{◌≡◌, ℕ, suc, ◌-◌, ◌<◌, ◌≤◌, Bool, true, false, cond, eqb, ◌⊎◌, List, length, get_or, set, Some, sym, refl, ap, ◌∙◌, subst, inl, inr, arith, length_set, get_or-set_other, get_or-set_same}
+use Rattle.std.proofs.Common.{◌≡◌, ℕ, suc, ◌-◌, ◌<◌, ◌≤◌, Bool, true, false, cond, eqb, ◌⊎◌, List, length, get_or, set, Some, sym, refl, ap, ◌∙◌, subst, inl, inr, arith, length-set, get_or-set_other, get_or-set_same}
 use Rattle.std.proofs.lemmas.Bool.{cases_eq, eq-eqb, ne_eqb}
 use Rattle.std.proofs.lemmas.Bool.Decides.{nat_tests}
 use Rattle.sets.specs.Meaning.{among, mergeable, Started, Found, Merged}
@@ -116,7 +116,7 @@ joined xs m v p ok long l =
 pub hung_kept : {xs ys : List ℕ} {m k v p : ℕ} (r : Bool) → k ≡ m → Hung xs m v p r ys → Kept xs m → Kept ys k
 hung_kept {xs} {ys} {m} {k} {v} {p} true used h kept =
     let j = (joined xs m v p h.accepted (omega arith) (linked_from xs m kept)).joined_links in
-    moved Kept used h.numbers (simp length_set kept.0, (j.stays, (j.ends, tt)))
+    moved Kept used h.numbers (simp length-set kept.0, (j.stays, (j.ends, tt)))
 hung_kept false used h kept = moved Kept used h.numbers kept
 
 pub hung_merged : {xs ys : List ℕ} {m k v p : ℕ} (r : Bool) → k ≡ m → Hung xs m v p r ys → Kept xs m →
@@ -132,7 +132,7 @@ hung_merged {xs} {ys} {m} {k} {v} {p} r used h kept =
 
     go : (q : Bool) → r ≡ q → Merged (linked_sets xs m) v p q (linked_sets (cond q (set xs (v - 1) p) xs) m)
     go true e =
-        merged_of xs (set xs (v - 1) p) true (end_of m f) (end_of m (number (set xs (v - 1) p))) (length_set _ _ _)
+        merged_of xs (set xs (v - 1) p) true (end_of m f) (end_of m (number (set xs (v - 1) p))) (length-set _ _ _)
         (sym e ∙ ok)
         (joined xs m v p (sym e ∙ h.accepted) (omega (arith, kept.0)) (linked_from xs m kept)).joined_ends
     go false e = merged_of xs xs false (end_of m f) (end_of m f) refl (sym e ∙ ok) (λ x i. refl)
@@ -182,7 +182,7 @@ halving_step m xs v ys at h long off =
     let up_in = l.stays at i in
     let store = relinked ys m at (f (f at)) i (omega (arith, h.long)) in
     record {
-      long = length_set _ _ _ ∙ h.long;
+      long = length-set _ _ _ ∙ h.long;
       leading = halved _ at l i off store;
       as_many = halved_elsewhere _ at l i off store ∙ h.as_many;
       inside = l.stays (f at) up_in;

@@ -1,9 +1,9 @@
-use Rattle.std.proofs.Common.{◌<◌, ◌≢◌, length, ◌∙◌, arith, length_set, get_or-set_other, get_or-set_same, below_more}
+use Rattle.std.proofs.Common.{◌<◌, ◌≢◌, length, ◌∙◌, arith, length-set, get_or-set_other, get_or-set_same, below_more}
 use Rattle.sets.proofs.table.Table.start.Goals as goal
 
 pub loop-i-preserved : goal.loop-i-preserved
 loop-i-preserved c = (
-  length_set _ _ _ ∙ c.loop-i.invariant.0,
+  length-set _ _ _ ∙ c.loop-i.invariant.0,
   below_more _ _
       (λ k h. let ne : k ≢ c.loop-i.i = omega arith in rw get_or-set_other (c.loop-i.invariant.1 k h))
       (let lt : c.loop-i.i < length c.loop-i.self.numbers.now = omega arith in rw get_or-set_same),
