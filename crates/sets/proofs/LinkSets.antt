@@ -11,15 +11,15 @@ use Rattle.sets.proofs.Linking.{merged, halved, halved_elsewhere}
 use Rattle.sets.proofs.Owed.{moved, begun_keeps, started_of, found_of, mergeable_is, merged_of}
 
 abbrev pub Kept : List ℕ → ℕ → Type 0
-Kept xs m = (m ≤ room xs) × (Stays m (number xs) × (Ends m (number xs) × Unit {0}))
+Kept xs m = record { fits : m ≤ room xs; stays : Stays m (number xs); ends : Ends m (number xs) }
 
 pub linked_from : (xs : List ℕ) (m : ℕ) → Kept xs m → Linked m (number xs)
-linked_from xs m kept = record { stays = kept.1.0; ends = kept.1.1.0 }
+linked_from xs m kept = record { stays = kept.stays; ends = kept.ends }
 
 -- what a find requires of its links
 pub ready : (xs : List ℕ) (m v : ℕ) → Kept xs m → true ≡ among m v →
     record { fits : m ≤ length xs; linked : Linked m (number xs); has : among m v ≡ true }
-ready xs m v kept inside = record { fits = omega (arith, kept.0); linked = linked_from xs m kept; has = sym inside }
+ready xs m v kept inside = record { fits = omega (arith, kept.fits); linked = linked_from xs m kept; has = sym inside }
 
 -- who links to itself is its own end
 pub end_own : (m : ℕ) (f : ℕ → ℕ) (x : ℕ) → f x ≡ x → end_of m f x ≡ x
@@ -29,13 +29,11 @@ end_own m f x = follow_own f (elsewhere f m) x
 pub begun_kept : {xs ys : List ℕ} {m n k : ℕ} {r : Bool} → Begun xs m n r ys k → Kept xs m → Kept ys k
 begun_kept {xs} {ys} {m} {n} {k} {r} b kept =
     begun_keeps r Kept b kept
-    (λ fits own. (
-      fits,
-      (
-        λ v i. let o = own v i in rw o i,
-        (λ v i. let o = own v i in let e = end_own k (number ys) v o in ap (number ys) e ∙ o ∙ sym e, tt),
-      ),
-    ))
+    (λ fits own. record {
+      fits = fits;
+      stays = λ v i. let o = own v i in rw o i;
+      ends = λ v i. let o = own v i in let e = end_own k (number ys) v o in ap (number ys) e ∙ o ∙ sym e;
+    })
 
 pub begun_started : {xs ys : List ℕ} {m n k : ℕ} {r : Bool} → Begun xs m n r ys k →
     Started (linked_sets xs m) n r (linked_sets ys k)
@@ -116,7 +114,7 @@ joined xs m v p ok long l =
 pub hung_kept : {xs ys : List ℕ} {m k v p : ℕ} (r : Bool) → k ≡ m → Hung xs m v p r ys → Kept xs m → Kept ys k
 hung_kept {xs} {ys} {m} {k} {v} {p} true used h kept =
     let j = (joined xs m v p h.accepted (omega arith) (linked_from xs m kept)).joined_links in
-    moved Kept used h.numbers (simp length-set kept.0, (j.stays, (j.ends, tt)))
+    moved Kept used h.numbers (record { fits = simp length-set kept.fits; stays = j.stays; ends = j.ends })
 hung_kept false used h kept = moved Kept used h.numbers kept
 
 pub hung_merged : {xs ys : List ℕ} {m k v p : ℕ} (r : Bool) → k ≡ m → Hung xs m v p r ys → Kept xs m →
@@ -128,13 +126,13 @@ hung_merged {xs} {ys} {m} {k} {v} {p} r used h kept =
     f = number xs
 
     ok : r ≡ mergeable (linked_sets xs m) v p
-    ok = h.accepted ∙ mergeable_is xs m (end_of m f) f v p (same_owns m f kept.1.1.0)
+    ok = h.accepted ∙ mergeable_is xs m (end_of m f) f v p (same_owns m f kept.ends)
 
     go : (q : Bool) → r ≡ q → Merged (linked_sets xs m) v p q (linked_sets (cond q (set xs (v - 1) p) xs) m)
     go true e =
         merged_of xs (set xs (v - 1) p) true (end_of m f) (end_of m (number (set xs (v - 1) p))) (length-set _ _ _)
         (sym e ∙ ok)
-        (joined xs m v p (sym e ∙ h.accepted) (omega (arith, kept.0)) (linked_from xs m kept)).joined_ends
+        (joined xs m v p (sym e ∙ h.accepted) (omega (arith, kept.fits)) (linked_from xs m kept)).joined_ends
     go false e = merged_of xs xs false (end_of m f) (end_of m f) refl (sym e ∙ ok) (λ x i. refl)
 
 -- following the way from v has come to `at`
@@ -235,7 +233,7 @@ halving_ends m xs v ys at h own =
 
 pub halved_kept : {xs ys : List ℕ} {m k v r : ℕ} → k ≡ m → Halved xs m v r ys → m ≤ room xs → Kept ys k
 halved_kept {xs} {ys} {m} {k} used h fits =
-    moved {xs = ys} Kept used refl (rw h.long fits, (h.linked.stays, (h.linked.ends, tt)))
+    moved {xs = ys} Kept used refl (record { fits = rw h.long fits; stays = h.linked.stays; ends = h.linked.ends })
 
 pub halved_found : {xs ys : List ℕ} {m k v r : ℕ} → k ≡ m → Halved xs m v r ys → true ≡ among m v →
     Found (linked_sets xs m) v (Some r) (linked_sets ys k)
