@@ -9,9 +9,9 @@ use crate::joining::{Joining, Node};
 fn join_up<J: Joining + Copy, N: Node<J>>(nodes: &mut [N], v: u32)
     requires from { 1 ≤ v }
     requires to { v ≤ length nodes.old }
-    requires parent { field_of blank above nodes.old v ≤ length nodes.old }
-    ensures joins { nodes.new ≡ joined_up joined blank above held holding nodes.old v }
-    ensures fitting { fits (field_of blank held nodes.old v) }
+    requires parent { field_of N.blank N.above nodes.old v ≤ length nodes.old }
+    ensures joins { nodes.new ≡ joined_up J.joined N.blank N.above N.held N.holding nodes.old v }
+    ensures fitting { J.fits (field_of N.blank N.held nodes.old v) }
 {
     let vertex = &nodes[v as usize - 1];
     let parent = vertex.parent() as usize;
@@ -27,8 +27,8 @@ fn join_up<J: Joining + Copy, N: Node<J>>(nodes: &mut [N], v: u32)
 // is complete when it is joined into the parent's.
 pub fn gather<J: Joining + Copy, N: Node<J>>(nodes: &mut [N], n: u32)
     requires within { n ≤ length nodes.old }
-    requires grows { Grows n (field_of blank above nodes.old) }
-    ensures { Gathered nothing joined blank above held holding n nodes.old nodes.new }
+    requires grows { Grows n (field_of N.blank N.above nodes.old) }
+    ensures { Gathered J.nothing J.joined N.blank N.above N.held N.holding n nodes.old nodes.new }
 {
     for v in 1..=n {
         join_up(nodes, v);

@@ -40,7 +40,7 @@ pub trait Node<J: Joining> {
 
     fn value(&self) -> J
         ensures is { result ≡ held self.now }
-        ensures fitting { J.Joining.fits result };
+        ensures fitting { J.fits result };
 
     fn set_value(&mut self, value: J)
         ensures { self.new ≡ holding self.old value };
