@@ -24,20 +24,23 @@ module _ (which : End) (ps : List (ℕ × ℕ)) where
   newest_at zero v j e = omega arith
   newest_at (suc k) v j e = let i = newest_at k v j in grind (arith, nat_tests)
 
+  -- one pair more: a pair with v there is found, and no earlier one is found than before
+  newest_here : (k v : ℕ) → end_of which (get_or ps k (0, 0)) ≡ v → newest which ps (suc k) v ≡ suc k
+  unfolding newest
+  newest_here k v e = grind (arith, nat_tests)
+
+  newest_more : (k v : ℕ) → newest which ps k v ≤ newest which ps (suc k) v
+  unfolding newest
+  newest_more k v = let w = newest_within k v in grind (arith, nat_tests)
+
   -- none past it has v there
   pub newest_last : (k v j : ℕ) → newest which ps k v ≤ j → j < k → end_of which (get_or ps j (0, 0)) ≢ v
-  unfolding newest
   newest_last zero v j past h e = omega arith
   newest_last (suc k) v j past h e =
       elim (cases_eq j k) [
         | inl i ↦
-            let d = ap (λ m. end_of which (get_or ps m (0, 0))) (sym i) ∙ e in
-            let t : newest which ps (suc k) v ≡ suc k = grind (arith, nat_tests) in omega arith
-        | inr ne ↦
-            let i = newest_last k v j in
-            let w = newest_within k v in
-            let t : newest which ps k v ≤ newest which ps (suc k) v = grind (arith, nat_tests) in
-            i (omega arith) (omega arith) e
+            let t = newest_here k v (ap (λ m. end_of which (get_or ps m (0, 0))) (sym i) ∙ e) in omega arith
+        | inr ne ↦ let t = newest_more k v in newest_last k v j (omega arith) (omega arith) e
       ]
 
 -- the pair at a position

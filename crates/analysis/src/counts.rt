@@ -87,15 +87,15 @@ fn lengthen_row(u: u32, x: u32, q: u32, vertices: &mut [Vertex])
 
 // Counts x as the next lower neighbour of u: it meets the part of row u found so far at the last one's top, or at u.
 fn count_entry<S: AncestorSets>(x: u32, u: u32, vertices: &mut [Vertex], sets: &mut S)
-    requires met { (1 ≤ x) × (x ≤ (meaning sets.old).used) }
-    requires row { (1 ≤ u) × (u ≤ (meaning sets.old).used) }
-    requires room { (meaning sets.old).used ≤ length vertices.old }
-    requires climbs { Climbs vertices.old u x (meets_at (meaning sets.old) vertices.old u) }
-    ensures counted { EntryCounted x u (meets_at (meaning sets.old) vertices.old u)
+    requires met { (1 ≤ x) × (x ≤ (S.meaning sets.old).used) }
+    requires row { (1 ≤ u) × (u ≤ (S.meaning sets.old).used) }
+    requires room { (S.meaning sets.old).used ≤ length vertices.old }
+    requires climbs { Climbs vertices.old u x (meets_at (S.meaning sets.old) vertices.old u) }
+    ensures counted { EntryCounted x u (meets_at (S.meaning sets.old) vertices.old u)
         vertices.old vertices.new }
-    ensures changed { CountsChanged (meaning sets.old).used
+    ensures changed { CountsChanged (S.meaning sets.old).used
         vertices.old vertices.new }
-    ensures tops { SameTops (meaning sets.old) (meaning sets.new) }
+    ensures tops { SameTops (S.meaning sets.old) (S.meaning sets.new) }
 {
     let q = sets.find(vertices[u as usize - 1].last).unwrap_or(u);
     lengthen_row(u, x, q, vertices);
@@ -119,11 +119,11 @@ fn count_neighbours<S: AncestorSets>(
     requires lists { AllLinked Low n vertices.old entries.now }
     requires ready { Ready (pattern_of n entries.now) vertices.old }
     requires before { Counting (pattern_of n entries.now) (place_in n entries.now x - 1) vertices.old }
-    requires tops { TopsAt (pattern_of n entries.now) (place_in n entries.now x - 1) (meaning sets.old) }
+    requires tops { TopsAt (pattern_of n entries.now) (place_in n entries.now x - 1) (S.meaning sets.old) }
     ensures counted { Counting (pattern_of n entries.now) (place_in n entries.now x)
         vertices.new }
     ensures changed { CountsChanged n vertices.old vertices.new }
-    ensures tops { SameTops (meaning sets.old) (meaning sets.new) }
+    ensures tops { SameTops (S.meaning sets.old) (S.meaning sets.new) }
 {
     let mut k = vertices[x as usize - 1].head;
     while k != 0 {
@@ -149,13 +149,13 @@ fn count_vertex<S: AncestorSets>(
     requires lists { AllLinked Low n vertices.old entries.now }
     requires ready { Ready (pattern_of n entries.now) vertices.old }
     requires before { Counting (pattern_of n entries.now) (place_in n entries.now x - 1) vertices.old }
-    requires tops { TopsAt (pattern_of n entries.now) (place_in n entries.now x - 1) (meaning sets.old) }
+    requires tops { TopsAt (pattern_of n entries.now) (place_in n entries.now x - 1) (S.meaning sets.old) }
     ensures counted { Counting (pattern_of n entries.now) (place_in n entries.now x)
         vertices.new }
     ensures changed { CountsChanged n vertices.old vertices.new }
     ensures tops { TopsAt (pattern_of n entries.now) (place_in n entries.now x)
-        (meaning sets.new) }
-    ensures size { (meaning sets.new).size ≡ (meaning sets.old).size }
+        (S.meaning sets.new) }
+    ensures size { (S.meaning sets.new).size ≡ (S.meaning sets.old).size }
 {
     count_neighbours(n, x, vertices, entries, sets);
     let parent = vertices[x as usize - 1].parent;
@@ -172,11 +172,11 @@ fn count_walk<S: AncestorSets>(n: u32, vertices: &mut [Vertex], entries: &[Entry
     requires lists { AllLinked Low n vertices.old entries.now }
     requires ready { Ready (pattern_of n entries.now) vertices.old }
     requires before { Counting (pattern_of n entries.now) 0 vertices.old }
-    requires tops { TopsAt (pattern_of n entries.now) 0 (meaning sets.old) }
+    requires tops { TopsAt (pattern_of n entries.now) 0 (S.meaning sets.old) }
     ensures counted { Counting (pattern_of n entries.now) n vertices.new }
     ensures changed { CountsChanged n vertices.old vertices.new }
-    ensures tops { TopsAt (pattern_of n entries.now) n (meaning sets.new) }
-    ensures size { (meaning sets.new).size ≡ (meaning sets.old).size }
+    ensures tops { TopsAt (pattern_of n entries.now) n (S.meaning sets.new) }
+    ensures size { (S.meaning sets.new).size ≡ (S.meaning sets.old).size }
 {
     for i in 0..n as usize {
         let x = vertices[i].at;
@@ -191,11 +191,11 @@ pub fn count<S: AncestorSets>(n: u32, vertices: &mut [Vertex], entries: &[Entry]
     requires sound { Sound n (pairs_of entries.now) }
     requires lists { AllLinked Low n vertices.old entries.now }
     requires ready { Ready (pattern_of n entries.now) vertices.old }
-    requires fresh { Fresh n (meaning sets.old) }
+    requires fresh { Fresh n (S.meaning sets.old) }
     ensures counted { Counted (pattern_of n entries.now) vertices.new }
     ensures changed { CountsChanged n vertices.old vertices.new }
-    ensures tops { TopsAreRoots (pattern_of n entries.now) (meaning sets.new) }
-    ensures size { (meaning sets.new).size ≡ (meaning sets.old).size }
+    ensures tops { TopsAreRoots (pattern_of n entries.now) (S.meaning sets.new) }
+    ensures size { (S.meaning sets.new).size ≡ (S.meaning sets.old).size }
 {
     begin_counts(n, vertices);
     take_children(n, vertices);

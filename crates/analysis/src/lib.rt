@@ -35,9 +35,9 @@ pub fn analyse<S: AncestorSets>(
     requires sound { Sound n (pairs_of entries.old) }
     ensures { MatchOption result
         (Refused n vertices.old vertices.new entries.old entries.new
-        (meaning sets.old) (meaning sets.new))
+        (S.meaning sets.old) (S.meaning sets.new))
         (Analysed n vertices.new entries.old entries.new
-        (meaning sets.old) (meaning sets.new)) }
+        (S.meaning sets.old) (S.meaning sets.new)) }
 {
     if !sets.start(n) {
         return None;

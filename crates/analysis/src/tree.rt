@@ -23,14 +23,14 @@ fn begin_tree(n: u32, vertices: &mut [Vertex])
 // Puts the tree that x is in, as far as it has grown, below u.
 fn adopt<S: AncestorSets>(x: u32, u: u32, vertices: &mut [Vertex], sets: &mut S)
     requires from { 1 ≤ x }
-    requires to { x ≤ (meaning sets.old).used }
+    requires to { x ≤ (S.meaning sets.old).used }
     requires above { 1 ≤ u }
-    requires within { u ≤ (meaning sets.old).used }
-    requires own { (meaning sets.old).top u ≡ u }
-    requires room { (meaning sets.old).used ≤ length vertices.old }
-    ensures tops { Adopted (meaning sets.old) x u (meaning sets.new) }
+    requires within { u ≤ (S.meaning sets.old).used }
+    requires own { (S.meaning sets.old).top u ≡ u }
+    requires room { (S.meaning sets.old).used ≤ length vertices.old }
+    ensures tops { Adopted (S.meaning sets.old) x u (S.meaning sets.new) }
     ensures parents { vertices.new
-        ≡ adopted vertices.old ((meaning sets.old).top x) u }
+        ≡ adopted vertices.old ((S.meaning sets.old).top x) u }
 {
     let r = sets.find(x).unwrap_or(u);
     if r != u {
@@ -52,11 +52,11 @@ fn adopt_row<S: AncestorSets>(
     requires within { n ≤ length vertices.old }
     requires sound { Sound n (pairs_of entries.now) }
     requires lists { AllLinked High n vertices.old entries.now }
-    requires used { (meaning sets.old).used ≡ n }
-    requires before { Grown n entries.now (u - 1) vertices.old (meaning sets.old) }
-    ensures size { (meaning sets.new).size ≡ (meaning sets.old).size }
-    ensures used { (meaning sets.new).used ≡ n }
-    ensures done { Grown n entries.now u vertices.new (meaning sets.new) }
+    requires used { (S.meaning sets.old).used ≡ n }
+    requires before { Grown n entries.now (u - 1) vertices.old (S.meaning sets.old) }
+    ensures size { (S.meaning sets.new).size ≡ (S.meaning sets.old).size }
+    ensures used { (S.meaning sets.new).used ≡ n }
+    ensures done { Grown n entries.now u vertices.new (S.meaning sets.new) }
     ensures only { Only parent_from vertices.old vertices.new }
     ensures past { KeptPast n vertices.old vertices.new }
 {
@@ -74,11 +74,11 @@ pub fn grow<S: AncestorSets>(n: u32, vertices: &mut [Vertex], entries: &[Entry],
     requires few { n ≤ 16384 }
     requires sound { Sound n (pairs_of entries.now) }
     requires lists { AllLinked High n vertices.old entries.now }
-    requires fresh { Fresh n (meaning sets.old) }
+    requires fresh { Fresh n (S.meaning sets.old) }
     ensures tree { Tree (pattern_of n entries.now) vertices.new }
-    ensures roots { Rooted (pattern_of n entries.now) (meaning sets.new) }
-    ensures used { (meaning sets.new).used ≡ n }
-    ensures size { (meaning sets.new).size ≡ (meaning sets.old).size }
+    ensures roots { Rooted (pattern_of n entries.now) (S.meaning sets.new) }
+    ensures used { (S.meaning sets.new).used ≡ n }
+    ensures size { (S.meaning sets.new).size ≡ (S.meaning sets.old).size }
     ensures grows { Grows n (parent_of vertices.new) }
     ensures only { Only parent_from vertices.old vertices.new }
     ensures past { KeptPast n vertices.old vertices.new }

@@ -100,8 +100,8 @@ fn analyse<'f, S: AncestorSets>(
     sets: &mut S,
     line: usize,
 ) -> Result<Answer<'f>, RunFault>
-    ensures does { Does (S.AncestorSets.meaning sets.old).size line analyses model.old model.new result }
-    ensures room { (S.AncestorSets.meaning sets.new).size ≡ (S.AncestorSets.meaning sets.old).size }
+    ensures does { Does (S.meaning sets.old).size line analyses model.old model.new result }
+    ensures room { (S.meaning sets.new).size ≡ (S.meaning sets.old).size }
 {
     match model.analyse(sets) {
         Ok(total) => Ok(Answer::Analysed { total }),
@@ -149,8 +149,8 @@ fn carry_out<'f, S: AncestorSets>(
     model: &mut Model<'_>,
     sets: &mut S,
 ) -> Result<Answer<'f>, RunFault>
-    ensures carried { Carried (lent_with model.old (S.AncestorSets.meaning sets.old).size) (allowed (lent_with model.old (S.AncestorSets.meaning sets.old).size) (means model.old) line (statement_of «record».entry)) model.old model.new result }
-    ensures room { (S.AncestorSets.meaning sets.new).size ≡ (S.AncestorSets.meaning sets.old).size }
+    ensures carried { Carried (lent_with model.old (S.meaning sets.old).size) (allowed (lent_with model.old (S.meaning sets.old).size) (means model.old) line (statement_of «record».entry)) model.old model.new result }
+    ensures room { (S.meaning sets.new).size ≡ (S.meaning sets.old).size }
 {
     match (run_state(model), record) {
         (RunState::BeforeModel, Record::Make { name, order }) => make_model(
@@ -171,8 +171,8 @@ fn try_line<'f, S: AncestorSets>(
     model: &mut Model<'_>,
     sets: &mut S,
 ) -> Result<Answer<'f>, RunFault>
-    ensures carried { Carried (lent_with model.old (S.AncestorSets.meaning sets.old).size) (line_verdict (lent_with model.old (S.AncestorSets.meaning sets.old).size) (means model.old) line.entry.number (line.entry.bytes.now, line.entry.ended)) model.old model.new result }
-    ensures room { (S.AncestorSets.meaning sets.new).size ≡ (S.AncestorSets.meaning sets.old).size }
+    ensures carried { Carried (lent_with model.old (S.meaning sets.old).size) (line_verdict (lent_with model.old (S.meaning sets.old).size) (means model.old) line.entry.number (line.entry.bytes.now, line.entry.ended)) model.old model.new result }
+    ensures room { (S.meaning sets.new).size ≡ (S.meaning sets.old).size }
 {
     let record = line.read()?;
     carry_out(record, line.number, model, sets)
@@ -194,10 +194,10 @@ fn refused_block(fault: RunFault) -> [u8; 32]
 
 // Carries out a line, and answers it by a block of 32 bytes.
 pub fn answer_line<S: AncestorSets>(line: Line<'_>, model: &mut Model<'_>, sets: &mut S) -> [u8; 32]
-    ensures state { means model.new ≡ line_state (lent_with model.old (S.AncestorSets.meaning sets.old).size) (means model.old) line.entry.number (line.entry.bytes.now, line.entry.ended) }
-    ensures block { result ≡ whole_block (line_text (lent_with model.old (S.AncestorSets.meaning sets.old).size) (means model.old) line.entry.number (line.entry.bytes.now, line.entry.ended)) }
+    ensures state { means model.new ≡ line_state (lent_with model.old (S.meaning sets.old).size) (means model.old) line.entry.number (line.entry.bytes.now, line.entry.ended) }
+    ensures block { result ≡ whole_block (line_text (lent_with model.old (S.meaning sets.old).size) (means model.old) line.entry.number (line.entry.bytes.now, line.entry.ended)) }
     ensures table { empty (means model.new) ≡ true → places model.new ≡ places model.old }
-    ensures room { (S.AncestorSets.meaning sets.new).size ≡ (S.AncestorSets.meaning sets.old).size }
+    ensures room { (S.meaning sets.new).size ≡ (S.meaning sets.old).size }
 {
     match try_line(line, model, sets) {
         Ok(answer) => answer.block(),
@@ -212,8 +212,8 @@ pub fn run_file<S: AncestorSets, A: Answers>(
     sets: &mut S,
     answers: &mut A,
 )
-    ensures state { means model.new ≡ file_state (lent_with model.old (S.AncestorSets.meaning sets.old).size) (means model.old) file.now }
-    ensures answers { FileAnswered A.Answers.took (lent_with model.old (S.AncestorSets.meaning sets.old).size) (means model.old) file.now answers.old answers.new }
+    ensures state { means model.new ≡ file_state (lent_with model.old (S.meaning sets.old).size) (means model.old) file.now }
+    ensures answers { FileAnswered A.took (lent_with model.old (S.meaning sets.old).size) (means model.old) file.now answers.old answers.new }
 {
     if file.len() > FILE_MOST {
         let block = refused_block(RunFault::FileTooLong);

@@ -26,9 +26,9 @@ impl<'a> Store<'a> {
         requires fewer { self.old.held ≤ 262144 }
         requires sound { Sound self.old.order (pairs_of (held_by self.old)) }
         ensures { MatchOption result
-            (Refused self.old self.new (meaning sets.old) (meaning sets.new))
-            (Analysed self.old self.new (meaning sets.old)
-            (meaning sets.new)) }
+            (Refused self.old self.new (S.meaning sets.old) (S.meaning sets.new))
+            (Analysed self.old self.new (S.meaning sets.old)
+            (S.meaning sets.new)) }
     {
         let no_vertices: &'a mut [Vertex] = &mut [];
         let no_entries: &'a mut [Entry] = &mut [];
@@ -65,10 +65,10 @@ impl<'a> Store<'a> {
 impl Model<'_> {
     // Analyses the model with ancestor sets lent for it; answers the sum of all column counts.
     pub fn analyse<S: AncestorSets>(&mut self, sets: &mut S) -> Result<u64, Refusal>
-        ensures outcome { Outcome (Analyse (meaning sets.old).size)
+        ensures outcome { Outcome (Analyse (S.meaning sets.old).size)
             self.old self.new (total (pattern_held self.old)) result }
         ensures sets { SetsAfter (pattern_held self.old)
-            (meaning sets.old) (meaning sets.new) result }
+            (S.meaning sets.old) (S.meaning sets.new) result }
     {
         if self.store.order == 0 {
             return Err(Refusal::EmptyModel);

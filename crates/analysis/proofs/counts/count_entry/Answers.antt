@@ -5,10 +5,10 @@ use Rattle.analysis.proofs.CountedTables.{entry_changed, entry_counted}
 use Rattle.analysis.proofs.CountedEvents.{found_meets, meets_within}
 use Rattle.analysis.proofs.counts.count_entry.Goals as goal
 
-pub lengthen-row-requires : goal.lengthen-row-requires
-lengthen-row-requires g c =
+pub lengthen_row-requires : goal.lengthen_row-requires
+lengthen_row-requires g c =
     let vs = c.args.vertices.now in
-    let i = found_meets _ _ vs c.args.u _ _ c.unwrap-or-q.ensures c.find.ensures in
+    let i = found_meets _ _ vs c.args.u _ _ c.unwrap_or-q.ensures c.find.ensures in
     let m = c.requires.met in
     let r = c.requires.row in
     let b = meets_within _ vs c.args.u (g.S.AncestorSets.sound c.args.sets.now) r.0 r.1 in
@@ -22,7 +22,7 @@ lengthen-row-requires g c =
 pub weigh-requires-2 : goal.weigh-requires-2
 weigh-requires-2 g c =
     let vs = c.args.vertices.now in
-    let i = found_meets _ _ vs c.args.u _ _ c.unwrap-or-q.ensures c.find.ensures in
+    let i = found_meets _ _ vs c.args.u _ _ c.unwrap_or-q.ensures c.find.ensures in
     let r = c.requires.row in
     let b = meets_within _ vs c.args.u (g.S.AncestorSets.sound c.args.sets.now) r.0 r.1 in
     record { from = omega arith; to = omega arith }
@@ -33,17 +33,17 @@ returns g c =
     let vs = c.args.vertices.now in
     let x = c.args.x in
     let u = c.args.u in
-    let q = c.unwrap-or-q.result in
-    let i = found_meets _ _ vs u _ _ c.unwrap-or-q.ensures c.find.ensures in
+    let q = c.unwrap_or-q.result in
+    let i = found_meets _ _ vs u _ _ c.unwrap_or-q.ensures c.find.ensures in
     let m = c.requires.met in
     let r = c.requires.row in
     let b = meets_within _ vs u (g.S.AncestorSets.sound c.args.sets.now) r.0 r.1 in
     record {
       counted = at_equal (λ q. EntryCounted x u q vs)
           (entry_counted used vs _ _ _ x u q (r.0, omega arith) (m.0, omega arith) (omega arith, omega arith)
-          c.lengthen-row.ensures c.weigh.ensures c.weigh-2.ensures)
+          c.lengthen_row.ensures c.weigh.ensures c.weigh-2.ensures)
           i;
       changed = entry_changed used vs _ _ _ x u q (r.0, omega arith) (m.0, omega arith) (omega arith, omega arith)
-          c.lengthen-row.ensures c.weigh.ensures c.weigh-2.ensures r.1 m.1 (omega arith);
+          c.lengthen_row.ensures c.weigh.ensures c.weigh-2.ensures r.1 m.1 (omega arith);
       tops = record { size = c.find.ensures.size; used = c.find.ensures.used; tops = c.find.ensures.tops };
     }

@@ -19,8 +19,8 @@ loop-k-init g c = (
 pub bounds-entries-k : goal.bounds-entries-k
 bounds-entries-k g c = let m = c.loop-k.invariant.0.within in omega arith
 
-pub count-entry-requires : goal.count-entry-requires
-count-entry-requires g c =
+pub count_entry-requires : goal.count_entry-requires
+count_entry-requires g c =
     let p = pattern_of c.args.n c.args.entries.now in
     let u = upper_at _ _ _ _ c.requires.sound c.loop-k.invariant.0 (omega arith) in
     let tops = tops_same p _ _ _ c.loop-k.invariant.3 c.requires.tops in
@@ -45,7 +45,7 @@ loop-k-preserved g c =
     let ready = ready_only p _ _ c.loop-k.invariant.2.only c.requires.ready in
     let at = at_entry _ _ _ _ c.requires.sound c.loop-k.invariant.0 (omega arith) in
     let new = event_more p _ _ _ _ at c.loop-k.invariant.1 in
-    let after = c.count-entry.ensures in (
+    let after = c.count_entry.ensures in (
       (met_link _ _ _ _ _ _ c.requires.lists c.loop-k.invariant.0 (omega arith)).1,
       counting_next p _ _ _ _ at c.loop-k.invariant.1 _ _
           (link_newest _ _ _ _ _ _ c.requires.lists c.loop-k.invariant.0 (omega arith))

@@ -6,7 +6,7 @@ use Rattle.analysis.proofs.counts.count_vertex.Goals as goal
 pub returns-then-parent-ne0 : goal.returns-then-parent-ne0
 returns-then-parent-ne0 g c =
     let p = pattern_of c.args.n c.args.entries.now in
-    let after = c.count-neighbours.ensures in
+    let after = c.count_neighbours.ensures in
     let tops = tops_same p _ _ _ after.tops c.requires.tops in
     let up = (ready_only p _ _ after.changed.only c.requires.ready).parents _ c.requires.from c.requires.to in
     record {
@@ -19,7 +19,7 @@ returns-then-parent-ne0 g c =
 pub returns-else-parent-ne0 : goal.returns-else-parent-ne0
 returns-else-parent-ne0 g c =
     let p = pattern_of c.args.n c.args.entries.now in
-    let after = c.count-neighbours.ensures in
+    let after = c.count_neighbours.ensures in
     let tops = tops_same p _ _ _ after.tops c.requires.tops in
     let up = (ready_only p _ _ after.changed.only c.requires.ready).parents _ c.requires.from c.requires.to in
     record {

@@ -11,8 +11,8 @@ use Rattle.analysis.proofs.counts.count_walk.Goals as goal
 pub loop-i-init : goal.loop-i-init
 loop-i-init g c = (c.requires.before, changed_none _ _, c.requires.tops, refl)
 
-pub count-vertex-requires : goal.count-vertex-requires
-count-vertex-requires g c =
+pub count_vertex-requires : goal.count_vertex-requires
+count_vertex-requires g c =
     let p = pattern_of c.args.n c.args.entries.now in
     let ready = ready_only p _ _ c.loop-i.invariant.1.only c.requires.ready in
     let at = at_walk p _ c.loop-i.i ready (omega arith) in
@@ -33,10 +33,10 @@ loop-i-preserved g c =
     let p = pattern_of c.args.n c.args.entries.now in
     let ready = ready_only p _ _ c.loop-i.invariant.1.only c.requires.ready in
     let at = at_walk p _ c.loop-i.i ready (omega arith) in (
-      at_equal (Counting p) c.count-vertex.ensures.counted at.place,
-      changed_then _ _ _ _ c.loop-i.invariant.1 c.count-vertex.ensures.changed,
-      at_equal (TopsAt p) c.count-vertex.ensures.tops at.place,
-      c.count-vertex.ensures.size ∙ c.loop-i.invariant.3,
+      at_equal (Counting p) c.count_vertex.ensures.counted at.place,
+      changed_then _ _ _ _ c.loop-i.invariant.1 c.count_vertex.ensures.changed,
+      at_equal (TopsAt p) c.count_vertex.ensures.tops at.place,
+      c.count_vertex.ensures.size ∙ c.loop-i.invariant.3,
     )
 
 pub returns : goal.returns

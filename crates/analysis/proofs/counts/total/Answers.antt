@@ -6,16 +6,16 @@ use Rattle.analysis.proofs.counts.total.Goals as goal
 pub loop-i-init : goal.loop-i-init
 loop-i-init c = total_none _
 
-pub overflow-add-sum : goal.overflow-add-sum
-overflow-add-sum c =
+pub overflow_add-sum : goal.overflow_add-sum
+overflow_add-sum c =
     let (p, order, counted) = c.requires.counted in
     record {
       fits = sum_fits p c.args.vertices.now counted (omega arith) c.loop-i.i _ _ (omega arith) c.loop-i.invariant
-          c.column-count-sum.ensures;
+          c.column_count-sum.ensures;
     }
 
 pub loop-i-preserved : goal.loop-i-preserved
-loop-i-preserved c = total_more c.args.vertices.now _ _ _ c.loop-i.invariant c.column-count-sum.ensures
+loop-i-preserved c = total_more c.args.vertices.now _ _ _ c.loop-i.invariant c.column_count-sum.ensures
 
 pub returns : goal.returns
 returns c p order counted =

@@ -7,11 +7,11 @@ pub gather-requires : goal.gather-requires
 gather-requires c =
     record {
       within = omega arith;
-      grows = begun_grows deepest_takes (λ _ _. refl) _ (λ _. refl) c.args.n _ _ c.begin-depths.ensures c.requires.grows;
+      grows = begun_grows deepest_takes (λ _ _. refl) _ (λ _. refl) c.args.n _ _ c.begin_depths.ensures c.requires.grows;
     }
 
 pub returns : goal.returns
 returns c =
     let (depths, only, past) =
-    depths_gathered c.args.n _ _ _ (omega arith) c.requires.grows c.begin-depths.ensures c.gather.ensures c.requires.levels in
+    depths_gathered c.args.n _ _ _ (omega arith) c.requires.grows c.begin_depths.ensures c.gather.ensures c.requires.levels in
     record { depths = depths; only = only; past = past }

@@ -7,11 +7,11 @@ pub gather-requires : goal.gather-requires
 gather-requires c =
     record {
       within = omega arith;
-      grows = begun_grows first_takes (λ _ _. refl) _ (λ _. refl) c.args.n _ _ c.begin-firsts.ensures c.requires.grows;
+      grows = begun_grows first_takes (λ _ _. refl) _ (λ _. refl) c.args.n _ _ c.begin_firsts.ensures c.requires.grows;
     }
 
 pub returns : goal.returns
 returns c =
     let (firsts, only, past) =
-    firsts_gathered c.args.n _ _ _ (omega arith) c.requires.grows c.requires.few c.begin-firsts.ensures c.gather.ensures c.requires.places in
+    firsts_gathered c.args.n _ _ _ (omega arith) c.requires.grows c.requires.few c.begin_firsts.ensures c.gather.ensures c.requires.places in
     record { firsts = firsts; only = only; past = past }

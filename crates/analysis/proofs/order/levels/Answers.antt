@@ -9,8 +9,8 @@ use Rattle.analysis.proofs.order.levels.Goals as goal
 pub loop-v-init : goal.loop-v-init
 loop-v-init c = (λ w p q. absurd (omega arith), only_none level_takes _, λ _ _. refl)
 
-pub settle-level-requires : goal.settle-level-requires
-settle-level-requires c =
+pub settle_level-requires : goal.settle_level-requires
+settle_level-requires c =
     let v = c.loop-v.v - 1 in
     let up = parent_of c.args.vertices.now in
     let g = c.requires.grows in
@@ -30,8 +30,8 @@ settle-level-requires c =
 pub loop-v-preserved : goal.loop-v-preserved
 loop-v-preserved c =
     let parents = same_parents level_from (λ _ _. refl) _ _ c.loop-v.invariant.1 in
-    let step = level_step c.args.n _ (c.loop-v.v - 1) c.loop-v.vertices c.settle-level.new.vertices
-    (omega arith) (omega arith) (omega arith) c.requires.grows parents c.settle-level.ensures
+    let step = level_step c.args.n _ (c.loop-v.v - 1) c.loop-v.vertices c.settle_level.new.vertices
+    (omega arith) (omega arith) (omega arith) c.requires.grows parents c.settle_level.ensures
     (λ w p q. c.loop-v.invariant.0 w (omega arith) q) in (
       step.0,
       only_then level_takes _ _ _ c.loop-v.invariant.1 step.1,

@@ -47,8 +47,8 @@ places-requires c =
       sizes = c.sizes.ensures.sizes;
     }
 
-pub walk-order-requires : goal.walk-order-requires
-walk-order-requires c =
+pub walk_order-requires : goal.walk_order-requires
+walk_order-requires c =
     let sized = to_sizes _ _ _ c.levels.ensures.only c.sizes.ensures.only in
     let placed = also place_from (λ _ _. refl) _ _ _ sized c.places.ensures.only in
     record {
@@ -58,53 +58,53 @@ walk-order-requires c =
       places = c.places.ensures.places;
     }
 
-pub first-places-requires : goal.first-places-requires
-first-places-requires c =
+pub first_places-requires : goal.first_places-requires
+first_places-requires c =
     let sized = to_sizes _ _ _ c.levels.ensures.only c.sizes.ensures.only in
-    let walked = to_walk _ _ _ _ sized c.places.ensures.only c.walk-order.ensures.only in
+    let walked = to_walk _ _ _ _ sized c.places.ensures.only c.walk_order.ensures.only in
     record {
       within = omega arith;
       grows = grows_only order_from (λ _ _. refl) c.args.n _ _ walked c.requires.grows;
       few = c.requires.few;
       places = holds_only at_from (λ _ _. refl) (λ x. x.place) place (λ _ _. refl) c.args.n _ _
-          c.walk-order.ensures.only c.places.ensures.places;
+          c.walk_order.ensures.only c.places.ensures.places;
     }
 
 pub depths-requires : goal.depths-requires
 depths-requires c =
     let sized = to_sizes _ _ _ c.levels.ensures.only c.sizes.ensures.only in
-    let walked = to_walk _ _ _ _ sized c.places.ensures.only c.walk-order.ensures.only in
-    let reached = also first_from (λ _ _. refl) _ _ _ walked c.first-places.ensures.only in
+    let walked = to_walk _ _ _ _ sized c.places.ensures.only c.walk_order.ensures.only in
+    let reached = also first_from (λ _ _. refl) _ _ _ walked c.first_places.ensures.only in
     record {
       within = omega arith;
       grows = grows_only order_from (λ _ _. refl) c.args.n _ _ reached c.requires.grows;
       levels = holds_only first_from (λ _ _. refl) (λ x. x.level) level (λ _ _. refl) c.args.n _ _
-          c.first-places.ensures.only
+          c.first_places.ensures.only
           (levels_to_walk c.args.n _ _ _ _ c.sizes.ensures.only c.places.ensures.only
-          c.walk-order.ensures.only c.levels.ensures.levels);
+          c.walk_order.ensures.only c.levels.ensures.levels);
     }
 
 pub returns : goal.returns
 returns c =
     let n = c.args.n in
-    let firsts = c.first-places.ensures.only in
+    let firsts = c.first_places.ensures.only in
     let depths = c.depths.ensures.only in
     let sized = to_sizes _ _ _ c.levels.ensures.only c.sizes.ensures.only in
-    let walked = to_walk _ _ _ _ sized c.places.ensures.only c.walk-order.ensures.only in
+    let walked = to_walk _ _ _ _ sized c.places.ensures.only c.walk_order.ensures.only in
     let reached = also first_from (λ _ _. refl) _ _ _ walked firsts in
     let whole = also deepest_from (λ _ _. refl) _ _ _ reached depths in
     let ordered : Ordered n (parent_of c.args.vertices.now) c.depths.new.vertices =
     subst (λ up. Ordered n up c.depths.new.vertices) (same_parents order_from (λ _ _. refl) _ _ whole)
     (record {
       levels = to_end (λ x. x.level) level (λ _ _. refl) (λ _ _. refl) n _ _ _ firsts depths
-          (levels_to_walk n _ _ _ _ c.sizes.ensures.only c.places.ensures.only c.walk-order.ensures.only
+          (levels_to_walk n _ _ _ _ c.sizes.ensures.only c.places.ensures.only c.walk_order.ensures.only
           c.levels.ensures.levels);
       places = to_end (λ x. x.place) place (λ _ _. refl) (λ _ _. refl) n _ _ _ firsts depths
           (holds_only at_from (λ _ _. refl) (λ x. x.place) place (λ _ _. refl) n _ _
-          c.walk-order.ensures.only c.places.ensures.places);
-      walk = to_end (λ x. x.at) at_place (λ _ _. refl) (λ _ _. refl) n _ _ _ firsts depths c.walk-order.ensures.walk;
+          c.walk_order.ensures.only c.places.ensures.places);
+      walk = to_end (λ x. x.at) at_place (λ _ _. refl) (λ _ _. refl) n _ _ _ firsts depths c.walk_order.ensures.walk;
       firsts = holds_only deepest_from (λ _ _. refl) (λ x. x.first.0) first_place (λ _ _. refl) n _ _ depths
-          c.first-places.ensures.firsts;
+          c.first_places.ensures.firsts;
       depths = c.depths.ensures.depths;
     }) in
     record {
@@ -114,6 +114,6 @@ returns c =
       past = past_then n _ _ _ c.levels.ensures.past
           (past_then n _ _ _ c.sizes.ensures.past
           (past_then n _ _ _ c.places.ensures.past
-          (past_then n _ _ _ c.walk-order.ensures.past
-          (past_then n _ _ _ c.first-places.ensures.past c.depths.ensures.past))));
+          (past_then n _ _ _ c.walk_order.ensures.past
+          (past_then n _ _ _ c.first_places.ensures.past c.depths.ensures.past))));
     }

@@ -17,8 +17,8 @@ loop-v-init c =
       λ _ _. refl,
     )
 
-pub take-place-free-requires : goal.take-place-free-requires
-take-place-free-requires c =
+pub take_place-free-requires : goal.take_place-free-requires
+take_place-free-requires c =
     let v = c.loop-v.v - 1 in
     let n = c.args.n in
     let up = parent_of c.args.vertices.now in
@@ -48,8 +48,8 @@ loop-v-preserved c =
     let parents = same_parents place_from (λ _ _. refl) _ _ c.loop-v.invariant.1 in
     let w = ap (λ x. x.weight.0) (c.loop-v.invariant.1 v) ∙ c.requires.sizes v (omega arith) (omega arith) in
     let step = place_step c.args.n _ c.requires.grows v c.loop-v.free c.loop-v.vertices (omega arith)
-    (omega arith) c.loop-v.invariant.0 (omega arith) parents (ap nat_abs w) c.take-place-free.new.vertices
-    c.take-place-free.result c.take-place-free.ensures.table c.take-place-free.ensures.free in (
+    (omega arith) c.loop-v.invariant.0 (omega arith) parents (ap nat_abs w) c.take_place-free.new.vertices
+    c.take_place-free.result c.take_place-free.ensures.table c.take_place-free.ensures.free in (
       step.0,
       only_then place_takes _ _ _ c.loop-v.invariant.1 step.1,
       past_then c.args.n _ _ _ c.loop-v.invariant.2 step.2,

@@ -7,11 +7,11 @@ pub gather-requires : goal.gather-requires
 gather-requires c =
     record {
       within = omega arith;
-      grows = begun_grows weight_takes (λ _ _. refl) _ (λ _. refl) c.args.n _ _ c.begin-sizes.ensures c.requires.grows;
+      grows = begun_grows weight_takes (λ _ _. refl) _ (λ _. refl) c.args.n _ _ c.begin_sizes.ensures c.requires.grows;
     }
 
 pub returns : goal.returns
 returns c =
     let (sizes, only, past) =
-    sizes_gathered c.args.n _ _ _ (omega arith) c.requires.grows c.requires.few c.begin-sizes.ensures c.gather.ensures in
+    sizes_gathered c.args.n _ _ _ (omega arith) c.requires.grows c.requires.few c.begin_sizes.ensures c.gather.ensures in
     record { sizes = sizes; only = only; past = past }

@@ -10,8 +10,8 @@ use Rattle.analysis.proofs.order.walk_order.Goals as goal
 pub loop-v-init : goal.loop-v-init
 loop-v-init c = (λ w p q. absurd (omega arith), only_none at_takes _, λ _ _. refl)
 
-pub note-place-requires : goal.note-place-requires
-note-place-requires c =
+pub note_place-requires : goal.note_place-requires
+note_place-requires c =
     let b = place_bounds c.args.n (parent_of c.args.vertices.now) c.requires.grows c.loop-v.v
     (record { named = omega arith; fits = omega arith }) in
     let e = ap (λ x. x.place) (c.loop-v.invariant.1 c.loop-v.v)
@@ -23,7 +23,7 @@ loop-v-preserved c =
     let e = ap (λ x. x.place) (c.loop-v.invariant.1 c.loop-v.v)
     ∙ c.requires.places c.loop-v.v (omega arith) (omega arith) in
     let step = walk_step c.args.n _ c.requires.grows c.loop-v.v c.loop-v.vertices
-    c.note-place.new.vertices (omega arith) (omega arith) (omega arith) e c.note-place.ensures
+    c.note_place.new.vertices (omega arith) (omega arith) (omega arith) e c.note_place.ensures
     c.loop-v.invariant.0 in (
       step.0,
       only_then at_takes _ _ _ c.loop-v.invariant.1 step.1,

@@ -8,16 +8,16 @@ use Rattle.analysis.proofs.tree.grow.Goals as goal
 
 pub loop-u-init : goal.loop-u-init
 loop-u-init g c = (
-  rows_none _ _ _ _ _ c.requires.within c.begin-tree.ensures c.requires.fresh,
+  rows_none _ _ _ _ _ c.requires.within c.begin_tree.ensures c.requires.fresh,
   refl,
   c.requires.fresh.used,
   only_none parent_takes _,
   λ _ _. refl,
 )
 
-pub adopt-row-requires : goal.adopt-row-requires
-adopt-row-requires g c =
-    let begun = only_front parent_takes c.args.n (λ x. with_parent x 0) _ _ (λ _. refl) c.begin-tree.ensures in
+pub adopt_row-requires : goal.adopt_row-requires
+adopt_row-requires g c =
+    let begun = only_front parent_takes c.args.n (λ x. with_parent x 0) _ _ (λ _. refl) c.begin_tree.ensures in
     record {
       from = omega arith;
       to = omega arith;
@@ -31,11 +31,11 @@ adopt-row-requires g c =
 
 pub loop-u-preserved : goal.loop-u-preserved
 loop-u-preserved g c = (
-  rows_at _ _ _ _ _ (omega arith) c.adopt-row.ensures.done,
-  c.adopt-row.ensures.size ∙ c.loop-u.invariant.1,
-  c.adopt-row.ensures.used,
-  only_then parent_takes _ _ _ c.loop-u.invariant.3 c.adopt-row.ensures.only,
-  λ v h. c.adopt-row.ensures.past v h ∙ c.loop-u.invariant.4 v h,
+  rows_at _ _ _ _ _ (omega arith) c.adopt_row.ensures.done,
+  c.adopt_row.ensures.size ∙ c.loop-u.invariant.1,
+  c.adopt_row.ensures.used,
+  only_then parent_takes _ _ _ c.loop-u.invariant.3 c.adopt_row.ensures.only,
+  λ v h. c.adopt_row.ensures.past v h ∙ c.loop-u.invariant.4 v h,
 )
 
 pub returns : goal.returns
@@ -49,7 +49,7 @@ returns g c =
       size = c.loop-u.invariant.1;
       grows = tree_grows p _ (rows_tree p _ _ after);
       only = only_then parent_takes _ _ _
-          (only_front parent_takes c.args.n (λ x. with_parent x 0) _ _ (λ _. refl) c.begin-tree.ensures)
+          (only_front parent_takes c.args.n (λ x. with_parent x 0) _ _ (λ _. refl) c.begin_tree.ensures)
           c.loop-u.invariant.3;
-      past = λ v h. c.loop-u.invariant.4 v h ∙ past_begun _ _ _ c.begin-tree.ensures v h;
+      past = λ v h. c.loop-u.invariant.4 v h ∙ past_begun _ _ _ c.begin_tree.ensures v h;
     }

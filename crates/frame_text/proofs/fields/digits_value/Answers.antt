@@ -6,8 +6,8 @@ use Rattle.frame_text.specs.Fields.{read_on}
 use Rattle.frame_text.proofs.Bytes.{every_at, digit_bounds, five_digits, read_more}
 use Rattle.frame_text.proofs.fields.digits_value.Goals as goal
 
-pub overflow-sub-b : goal.overflow-sub-b
-overflow-sub-b c =
+pub overflow_sub-b : goal.overflow_sub-b
+overflow_sub-b c =
     (digit_bounds _ (every_at is_ascii_digit c.args.digits.now c.loop-b.b-index (omega arith) c.requires.digits)).0
 
 pub loop-b-preserved : goal.loop-b-preserved

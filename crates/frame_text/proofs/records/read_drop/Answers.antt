@@ -6,12 +6,12 @@ use Rattle.frame_text.specs.Records.{drops}
 use Rattle.frame_text.proofs.Stages.{with_two, drops_two}
 use Rattle.frame_text.proofs.records.read_drop.Goals as goal
 
-pub returns-in-err-i : goal.returns-in-err-i
-returns-in-err-i c =
-    let p = err_from_is_err_and c.from-residual.result c.from-residual.ensures.1 in
+pub returns-in_err-i : goal.returns-in_err-i
+returns-in_err-i c =
+    let p = err_from_is_err_and c.from_residual.result c.from_residual.ensures.1 in
     rw (p.1, p.2)
-    (ap (with_two drops) c.in-err-i.ensures ∙ drops_two c.args.line (fields c.args.rest.now))
+    (ap (with_two drops) c.in_err-i.ensures ∙ drops_two c.args.line (fields c.args.rest.now))
 
 pub returns : goal.returns
 returns c =
-    ap (with_two drops) c.in-ok-i.ensures ∙ drops_two c.args.line (fields c.args.rest.now)
+    ap (with_two drops) c.in_ok-i.ensures ∙ drops_two c.args.line (fields c.args.rest.now)

@@ -6,28 +6,28 @@ use Rattle.frame_text.specs.Fields.{fields}
 use Rattle.frame_text.proofs.Stages.{miscount, passed, failed, two_kind}
 use Rattle.frame_text.proofs.records.read_make.Goals as goal
 
-pub returns-in-err-name : goal.returns-in-err-name
-returns-in-err-name c =
-    let p = err_from_is_err_and c.from-residual.result c.from-residual.ensures.1 in
-    rw (p.1, p.2) (miscount _ _ _ _ _ c.in-err-name.ensures)
+pub returns-in_err-name : goal.returns-in_err-name
+returns-in_err-name c =
+    let p = err_from_is_err_and c.from_residual.result c.from_residual.ensures.1 in
+    rw (p.1, p.2) (miscount _ _ _ _ _ c.in_err-name.ensures)
 
-pub returns-in-err-check-name : goal.returns-in-err-check-name
-returns-in-err-check-name c =
-    let p = err_from_is_err_and c.from-residual-in-err-check-name.result
-    c.from-residual-in-err-check-name.ensures.1 in
+pub returns-in_err-check_name : goal.returns-in_err-check_name
+returns-in_err-check_name c =
+    let p = err_from_is_err_and c.from_residual-in_err-check_name.result
+    c.from_residual-in_err-check_name.ensures.1 in
     rw (p.1, p.2)
-    (failed _ _ _ _ c.in-err-check-name.ensures ∙
-    two_kind Make c.args.line (fields c.args.rest.now) _ _ refl c.in-ok-name.ensures)
+    (failed _ _ _ _ c.in_err-check_name.ensures ∙
+    two_kind Make c.args.line (fields c.args.rest.now) _ _ refl c.in_ok-name.ensures)
 
-pub returns-in-err-check-number : goal.returns-in-err-check-number
-returns-in-err-check-number c =
-    let p = err_from_is_err_and c.from-residual-in-err-check-number.result
-    c.from-residual-in-err-check-number.ensures.1 in
+pub returns-in_err-check_number : goal.returns-in_err-check_number
+returns-in_err-check_number c =
+    let p = err_from_is_err_and c.from_residual-in_err-check_number.result
+    c.from_residual-in_err-check_number.ensures.1 in
     rw (p.1, p.2)
-    (failed _ _ _ _ c.in-err-check-number.ensures ∙ passed _ _ _ _ c.in-ok-check-name.ensures ∙
-    two_kind Make c.args.line (fields c.args.rest.now) _ _ refl c.in-ok-name.ensures)
+    (failed _ _ _ _ c.in_err-check_number.ensures ∙ passed _ _ _ _ c.in_ok-check_name.ensures ∙
+    two_kind Make c.args.line (fields c.args.rest.now) _ _ refl c.in_ok-name.ensures)
 
 pub returns : goal.returns
 returns c =
-    passed _ _ _ _ c.in-ok-check-number.ensures ∙ passed _ _ _ _ c.in-ok-check-name.ensures ∙
-    two_kind Make c.args.line (fields c.args.rest.now) _ _ refl c.in-ok-name.ensures
+    passed _ _ _ _ c.in_ok-check_number.ensures ∙ passed _ _ _ _ c.in_ok-check_name.ensures ∙
+    two_kind Make c.args.line (fields c.args.rest.now) _ _ refl c.in_ok-name.ensures

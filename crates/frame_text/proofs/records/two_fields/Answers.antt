@@ -9,16 +9,16 @@ use Rattle.frame_text.proofs.records.two_fields.Goals as goal
 pub returns-then-end-rest : goal.returns-then-end-rest
 returns-then-end-rest c = no_second c.args.line c.args.rest.now (omega arith)
 
-pub returns-in-err-second : goal.returns-in-err-second
-returns-in-err-second c =
-    let p = err_from_is_err_and c.from-residual.result c.from-residual.ensures.1 in
+pub returns-in_err-second : goal.returns-in_err-second
+returns-in_err-second c =
+    let p = err_from_is_err_and c.from_residual.result c.from_residual.ensures.1 in
     rw (p.1, p.2)
-    (two_from_rest c.args.line c.args.rest.now _ c.bytes-before-end.result _ _
-    c.bytes-before-end.ensures.place c.bytes-before-end.ensures.within c.if-end-rest.false
-    (take_rest c.args.rest.now _) (sub-zero c.bytes-before-end.result) c.in-err-second.ensures)
+    (two_from_rest c.args.line c.args.rest.now _ c.bytes_before-end.result _ _
+    c.bytes_before-end.ensures.place c.bytes_before-end.ensures.within c.if-end-rest.false
+    (take_rest c.args.rest.now _) (sub-zero c.bytes_before-end.result) c.in_err-second.ensures)
 
 pub returns : goal.returns
 returns c =
-    two_from_rest c.args.line c.args.rest.now _ c.bytes-before-end.result _ _
-    c.bytes-before-end.ensures.place c.bytes-before-end.ensures.within c.if-end-rest.false
-    (take_rest c.args.rest.now _) (sub-zero c.bytes-before-end.result) c.in-ok-second.ensures
+    two_from_rest c.args.line c.args.rest.now _ c.bytes_before-end.result _ _
+    c.bytes_before-end.ensures.place c.bytes_before-end.ensures.within c.if-end-rest.false
+    (take_rest c.args.rest.now _) (sub-zero c.bytes_before-end.result) c.in_ok-second.ensures

@@ -11,4 +11,4 @@ returns-then-n-lt10 t c =
 pub returns-else-n-lt10 : goal.returns-else-n-lt10
 returns-else-n-lt10 t c =
     adds_same _ _ _ _ (sym (decimal_step c.args.n c.if-n-lt10.false (omega arith)))
-    (adds_then _ _ _ _ _ c.push-number.ensures c.push-else-n-lt10.ensures)
+    (adds_then _ _ _ _ _ c.push_number.ensures c.push-else-n-lt10.ensures)

@@ -14,16 +14,16 @@ pub returns-then-length-rest : goal.returns-then-length-rest
 returns-then-length-rest c = (
   reads_last c.args.self.now.file.now _ c.args.self.now.at
       (take_rest c.args.self.now.file.now c.args.self.now.at) (omega arith)
-      (sym c.bytes-before-length.ensures.place ∙ c.if-length-rest.true),
+      (sym c.bytes_before-length.ensures.place ∙ c.if-length-rest.true),
   refl,
   refl,
 )
 
 pub returns : goal.returns
 returns c = (
-  reads_line c.args.self.now.file.now _ c.args.self.now.at c.bytes-before-length.result _
+  reads_line c.args.self.now.file.now _ c.args.self.now.at c.bytes_before-length.result _
       (take_rest c.args.self.now.file.now c.args.self.now.at)
-      c.bytes-before-length.ensures.place (omega arith) (sub-zero c.bytes-before-length.result),
+      c.bytes_before-length.ensures.place (omega arith) (sub-zero c.bytes_before-length.result),
   refl,
   refl,
 )

@@ -5,6 +5,6 @@ use Rattle.frame_text.proofs.lines.Line.read.Goals as goal
 
 pub returns : goal.returns
 returns c =
-    c.read-bytes.ensures ∙
+    c.read_bytes.ensures ∙
     whole_line c.args.self.now.number c.args.self.now.bytes.now c.args.self.now.ended
-    c.if-self-gt-LINE-MOST.false c.if-not-self.false
+    c.if-self-gt-LINE_MOST.false c.if-not-self.false
