@@ -17,21 +17,21 @@ analyse-requires g c =
       sound = sound_from _ _ m.sound;
     }
 
-pub invariant-of-self : goal.invariant-of-self
-invariant-of-self g c =
-    kept_same c.args.self.now _ c.in-default.ensures.store
+pub invariant_of-self : goal.invariant_of-self
+invariant_of-self g c =
+    kept_same c.args.self.now _ c.in_default.ensures.store
 
-pub invariant-of-self-2 : goal.invariant-of-self-2
-invariant-of-self-2 g c = analysed_kept c.args.self.now _ _ _ _ c.in-Some.ensures
+pub invariant_of-self-2 : goal.invariant_of-self-2
+invariant_of-self-2 g c = analysed_kept c.args.self.now _ _ _ _ c.in-Some.ensures
 
-pub returns-in-default : goal.returns-in-default
-returns-in-default g c =
+pub returns-in_default : goal.returns-in_default
+returns-in_default g c =
     record {
-      outcome = analyse_refused c.args.self.now _ _ _ _ c.if-self-eq0.false c.in-default.ensures;
+      outcome = analyse_refused c.args.self.now _ _ _ _ c.if-self-eq0.false c.in_default.ensures;
       sets =
           record {
-            size = c.in-default.ensures.sets.size;
-            refused = λ _. c.in-default.ensures.sets;
+            size = c.in_default.ensures.sets.size;
+            refused = λ _. c.in_default.ensures.sets;
             accepted = λ ok. let z : ◌≡◌ {A = ℕ} 0 1 = cc in absurd (omega arith);
           };
     }

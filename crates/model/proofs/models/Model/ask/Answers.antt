@@ -3,29 +3,29 @@ use Rattle.model.proofs.Asking.{asks}
 use Rattle.model.proofs.Rules.{met_none}
 use Rattle.model.proofs.models.Model.ask.Goals as goal
 
-pub overflow-sub-found : goal.overflow-sub-found
-overflow-sub-found c =
+pub overflow_sub-found : goal.overflow_sub-found
+overflow_sub-found c =
     (asks c.args.self.now c.args.v
-    (met_none _ tt (sym c.judge-question.ensures ∙ c.in-ok-judge-question.was))).one
+    (met_none _ tt (sym c.judge_question.ensures ∙ c.in_ok-judge_question.was))).one
 
 pub bounds-self-v : goal.bounds-self-v
 bounds-self-v c =
     let known =
     asks c.args.self.now c.args.v
-    (met_none _ tt (sym c.judge-question.ensures ∙ c.in-ok-judge-question.was)) in
+    (met_none _ tt (sym c.judge_question.ensures ∙ c.in_ok-judge_question.was)) in
     omega (arith, known.one, known.most, c.args.self.now.placed)
 
-pub overflow-sub-result : goal.overflow-sub-result
-overflow-sub-result c =
+pub overflow_sub-result : goal.overflow_sub-result
+overflow_sub-result c =
     (asks c.args.self.now c.args.v
-    (met_none _ tt (sym c.judge-question.ensures ∙ c.in-ok-judge-question.was))).rises
+    (met_none _ tt (sym c.judge_question.ensures ∙ c.in_ok-judge_question.was))).rises
 
-pub overflow-cast-result : goal.overflow-cast-result
-overflow-cast-result c =
+pub overflow_cast-result : goal.overflow_cast-result
+overflow_cast-result c =
     (asks c.args.self.now c.args.v
-    (met_none _ tt (sym c.judge-question.ensures ∙ c.in-ok-judge-question.was))).casts
+    (met_none _ tt (sym c.judge_question.ensures ∙ c.in_ok-judge_question.was))).casts
 
 pub returns : goal.returns
 returns c =
     (asks c.args.self.now c.args.v
-    (met_none _ tt (sym c.judge-question.ensures ∙ c.in-ok-judge-question.was))).reads
+    (met_none _ tt (sym c.judge_question.ensures ∙ c.in_ok-judge_question.was))).reads

@@ -6,7 +6,7 @@ pub returns : goal.returns
 returns c =
     let stands = c.requires.stands in
     record {
-      others = record { order = refl; vertices = refl; long = c.copy-within.ensures.len; unanalysed = refl };
+      others = record { order = refl; vertices = refl; long = c.copy_within.ensures.len; unanalysed = refl };
       count = omega arith;
-      entries = close_gap _ _ _ _ c.copy-within.ensures.after stands c.requires.fitting;
+      entries = close_gap _ _ _ _ c.copy_within.ensures.after stands c.requires.fitting;
     }
