@@ -17,7 +17,7 @@ returns-in-Err g c =
     let h = c.in-Err.ensures in
     record {
       state = h.carried.state;
-      block = block_refused _ _ _ c.args.line.number (c.args.line.bytes.now, c.args.line.ended) _ _ h.carried c.refused-block.ensures;
+      block = block_refused _ _ _ c.args.line.number (c.args.line.bytes.now, c.args.line.ended) _ _ h.carried c.refused_block.ensures;
       table = h.carried.table;
       room = h.room;
     }

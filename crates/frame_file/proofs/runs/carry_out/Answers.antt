@@ -8,30 +8,30 @@ pub returns-in-BeforeModel-Make : goal.returns-in-BeforeModel-Make
 returns-in-BeforeModel-Make g c =
     record {
       carried = in_its_place _ _ c.args.record _ _ _ _ (ap statement_of c.in-BeforeModel-Make.is-1)
-          (before_model _ _ _ c.run_state.ensures c.in-BeforeModel-Make.is-0) (c.make-model.ensures _);
+          (before_model _ _ _ c.run_state.ensures c.in-BeforeModel-Make.is-0) (c.make_model.ensures _);
       room = search rules;
     }
 
-pub returns-in-default-Put : goal.returns-in-default-Put
-returns-in-default-Put g c =
+pub returns-in_default-Put : goal.returns-in_default-Put
+returns-in_default-Put g c =
     record {
-      carried = in_its_place _ _ c.args.record _ _ _ _ (ap statement_of c.in-default-Put.is-1)
-          (after_model _ _ _ c.run_state.ensures c.in-default-Put.not-BeforeModel-0) (c.put-entry.ensures _);
+      carried = in_its_place _ _ c.args.record _ _ _ _ (ap statement_of c.in_default-Put.is-1)
+          (after_model _ _ _ c.run_state.ensures c.in_default-Put.not-BeforeModel-0) (c.put_entry.ensures _);
       room = search rules;
     }
 
-pub returns-in-default-Drop : goal.returns-in-default-Drop
-returns-in-default-Drop g c =
+pub returns-in_default-Drop : goal.returns-in_default-Drop
+returns-in_default-Drop g c =
     record {
-      carried = in_its_place _ _ c.args.record _ _ _ _ (ap statement_of c.in-default-Drop.is-1)
-          (after_model _ _ _ c.run_state.ensures c.in-default-Drop.not-BeforeModel-0) (c.drop-entry.ensures _);
+      carried = in_its_place _ _ c.args.record _ _ _ _ (ap statement_of c.in_default-Drop.is-1)
+          (after_model _ _ _ c.run_state.ensures c.in_default-Drop.not-BeforeModel-0) (c.drop_entry.ensures _);
       room = search rules;
     }
 
-pub returns-in-default-Ask : goal.returns-in-default-Ask
-returns-in-default-Ask g c =
+pub returns-in_default-Ask : goal.returns-in_default-Ask
+returns-in_default-Ask g c =
     record {
-      carried = in_its_place _ _ c.args.record _ _ _ _ (ap statement_of c.in-default-Ask.is-1)
-          (after_model _ _ _ c.run_state.ensures c.in-default-Ask.not-BeforeModel-0) (c.ask.ensures _);
+      carried = in_its_place _ _ c.args.record _ _ _ _ (ap statement_of c.in_default-Ask.is-1)
+          (after_model _ _ _ c.run_state.ensures c.in_default-Ask.not-BeforeModel-0) (c.ask.ensures _);
       room = search rules;
     }
