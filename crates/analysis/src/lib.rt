@@ -1,5 +1,7 @@
 // The analysis of a pattern over lent tables: from entries to the elimination tree, its places and the counts. An
 // inner room: its calls require what the callers above prove, and users are not meant to call them.
+#![tactic(auto)]
+
 ghost use Rattle.std.specs.Prelude.{ℕ, ◌≤◌, length, MatchOption};
 ghost use Rattle.analysis.specs.Tables.{pairs_of, Sound};
 ghost use Rattle.analysis.specs.Analysed.{Refused, Analysed};

@@ -1,5 +1,5 @@
 -- The block that answers a line, and that every answer stands whole in its block.
-use Rattle.std.proofs.Common.{◌≡◌, ℕ, ◌≤◌, Bool, true, false, cond, ◌&&◌, eqb, ltb, leb, List, [], ◌∷◌, length, get_or, Some, None, Ok, Err, Option, Result, sym, refl, ap, ◌∙◌, subst, arith, lit≤, MatchResult}
+use Rattle.std.proofs.Common.{◌≡◌, ℕ, ◌≤◌, Bool, true, false, cond, ◌&&◌, eqb, ltb, leb, List, [], ◌∷◌, length, get_or, Some, None, Ok, Err, Option, Result, sym, refl, ap, ◌∙◌, arith, lit≤}
 use Rattle.std.proofs.lemmas.Bool.{and_parts, leb-true}
 use Rattle.model.specs.Meaning.{meaning}
 use Rattle.model.specs.States.{State}
@@ -7,8 +7,8 @@ use Rattle.model.specs.declared.models.Model.{Model}
 use Rattle.model.specs.declared.refusals.Refusal.{Refusal}
 use Rattle.frame_text.specs.Answers.{name_length, text_of, whole_block}
 use Rattle.frame_text.specs.Fields.{every, fields, is_name, is_number, name_byte}
-use Rattle.frame_text.specs.Records.{Part, Statement, makes, puts, drops, analyses, asks, named, numbered, counted, part}
-use Rattle.frame_text.specs.Records.{by_fields, by_count, by_kind, by_letter, letter, operands, reading}
+use Rattle.frame_text.specs.Records.{Part, Statement, makes, puts, drops, analyses, asks, numbered, part}
+use Rattle.frame_text.specs.Records.{by_fields, by_kind, by_letter, letter, operands, reading}
 use Rattle.frame_text.specs.declared.answers.Answer.{Answer}
 use Rattle.frame_text.specs.declared.answers.Answer.TheVariants as says
 use Rattle.frame_text.specs.declared.faults.LineFault.{LineFault}
@@ -19,7 +19,7 @@ use Rattle.frame_text.specs.declared.records.Kind.TheVariants as kinds
 use Rattle.frame_file.specs.declared.faults.RunFault.{RunFault}
 use Rattle.frame_file.specs.Carried.{Carried}
 use Rattle.frame_file.specs.Faults.{run_report}
-use Rattle.frame_file.specs.Runs.{Sizes, allowed, answer_by, bare, in_place, line_text, line_verdict, refusal_of, said, state_by, unless, verdict}
+use Rattle.frame_file.specs.Runs.{Sizes, answer_by, bare, in_place, line_text, line_verdict, refusal_of, said, state_by, unless, verdict}
 
 -- how long a name a statement gives
 abbrev pub given_name : Statement → ℕ

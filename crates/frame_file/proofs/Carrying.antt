@@ -1,10 +1,10 @@
 -- What a call of the model makes of a line that asks for it.
-use Rattle.std.proofs.Common.{◌≡◌, ℕ, min, Bool, true, false, cond, not, ◌||◌, eqb, length, is_err, Some, None, Ok, Err, Option, Result, sym, refl, ap, ◌∙◌, subst, arith}
+use Rattle.std.proofs.Common.{◌≡◌, ℕ, Bool, true, false, cond, not, ◌||◌, eqb, length, is_err, Some, None, Ok, Err, Option, Result, sym, refl, ap, ◌∙◌, subst, arith}
 use Rattle.std.specs.Result.{result_map_both}
 use Rattle.pattern.specs.Elimination.{total}
 use Rattle.model.specs.Meaning.{meaning, Outcome}
-use Rattle.model.specs.States.{State, Given, Put, Drop, Analyse, Question, Total, first_refusal, first_fault, answer, accepted}
-use Rattle.model.specs.States.{if_accepted, made, pattern_in, most_entries, step}
+use Rattle.model.specs.States.{State, Given, Analyse, Question, first_refusal, first_fault, answer, accepted}
+use Rattle.model.specs.States.{if_accepted, made, pattern_in, step}
 use Rattle.model.specs.declared.models.Model.{Model}
 use Rattle.model.specs.declared.refusals.Refusal.{Refusal}
 use Rattle.frame_text.specs.Records.{Part, Statement, analyses, asks, makes, statement_of}

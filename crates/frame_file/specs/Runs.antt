@@ -4,7 +4,7 @@ use Rattle.std.specs.Borrow.{Bor}
 use Rattle.pattern.specs.Elimination.{total}
 use Rattle.pattern.specs.Patterns.{Pattern}
 use Rattle.model.specs.Asked.{numbers_of}
-use Rattle.model.specs.States.{State, Given, Put, Drop, Analyse, Question, first_refusal, first_fault, made, accepted, pattern_in}
+use Rattle.model.specs.States.{State, Put, Drop, Analyse, Question, first_refusal, first_fault, made, accepted, pattern_in}
 use Rattle.model.specs.declared.refusals.Refusal.{Refusal}
 use Rattle.frame_text.specs.Answers.{text_of, whole_block}
 use Rattle.frame_text.specs.Fields.{value_of}

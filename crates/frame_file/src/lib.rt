@@ -1,4 +1,6 @@
 // The run of a frame file: its lines in order, each carried out on a model and answered by a block of 32 bytes.
+#![tactic(auto)]
+
 pub mod faults;
 pub mod listing;
 pub mod runs;

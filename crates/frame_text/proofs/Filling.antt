@@ -1,5 +1,5 @@
 -- Bytes written one after the other into a block.
-use Rattle.std.proofs.Common.{◌≡◌, ℕ, zero, suc, ◌+◌, ◌-◌, ◌<◌, ◌≤◌, min, List, [], ◌∷◌, ◌++◌, length, set, replicate, sym, refl, ap, ◌∙◌, subst, append_assoc, arith, length-append}
+use Rattle.std.proofs.Common.{◌≡◌, ℕ, zero, suc, ◌+◌, ◌-◌, ◌<◌, ◌≤◌, List, [], ◌∷◌, ◌++◌, length, set, replicate, refl, ap, ◌∙◌, subst, append_assoc, arith, length-append}
 use native.Mathlib.Nat.{sub-zero}
 use Rattle.frame_text.specs.declared.answers.Block.{Block}
 use Rattle.frame_text.specs.Answers.{filled, block_of, whole_block}

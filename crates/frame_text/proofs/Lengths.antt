@@ -1,9 +1,9 @@
 -- Every answer whose name has at most 16 bytes is short.
-use Rattle.std.proofs.Common.{ℕ, ◌+◌, ◌^◌, ◌<◌, ◌≤◌, List, [], ◌∷◌, ◌++◌, length, arith, lit<, length-append}
+use Rattle.std.proofs.Common.{ℕ, ◌^◌, ◌<◌, ◌≤◌, length, arith, lit<, length-append}
 use Rattle.std.proofs.lemmas.Fmt.{length-decimal-le}
 use Rattle.frame_text.specs.declared.answers.Answer.{Answer}
 use Rattle.frame_text.specs.declared.answers.Answer.TheVariants.{Made, Put, Dropped, Analysed, Asked, Refused}
-use Rattle.frame_text.specs.Answers.{then, text_of, name_length, letter_of}
+use Rattle.frame_text.specs.Answers.{then, text_of, name_length}
 
 -- the numbers of an answer fit their types
 abbrev pub Fitting : Answer → Type 0

@@ -5,7 +5,7 @@ use Rattle.std.specs.Int.{is_in_range}
 use Rattle.std.proofs.lemmas.Fmt.{decimal-digits_value}
 use Rattle.std.proofs.lemmas.Str.Parse.{IsNumeralModel, numerals_by_fold, digits_value_short}
 use Rattle.std.proofs.lemmas.Bool.{and_parts, not-true, leb-true, eqb-false, cond-true}
-use Rattle.frame_text.specs.Fields.{every, padded, is_number, read_on, value_of}
+use Rattle.frame_text.specs.Fields.{every, padded, is_number, read_on}
 use Rattle.frame_text.specs.Laws.{NumbersReadBack}
 
 own : IsNumeralModel (λ ds. every is_ascii_digit ds ≡ true) (read_on 0)

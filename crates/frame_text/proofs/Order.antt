@@ -1,13 +1,13 @@
 -- The stages of a line's reading find the first fault of the list.
-use Rattle.std.proofs.Common.{◌≡◌, ℕ, Bool, true, false, cond, not, ◌&&◌, eqb, ltb, List, [], ◌∷◌, length, get_or, drop, Some, None, Ok, Err, Option, Result, sym, refl, ap, ◌∙◌}
+use Rattle.std.proofs.Common.{◌≡◌, ℕ, Bool, true, false, cond, not, eqb, ltb, List, [], ◌∷◌, length, get_or, drop, Some, None, Ok, Err, Option, refl}
 use Rattle.std.specs.Result.{result_err}
 use Rattle.frame_text.specs.declared.faults.LineFault.{LineFault}
 use Rattle.frame_text.specs.declared.faults.LineFault.TheVariants.{TooLong, NoLf}
 use Rattle.frame_text.specs.declared.records.Kind.{Kind}
 use Rattle.frame_text.specs.declared.records.Kind.TheVariants.{Make, Put, Drop, Analyse, Ask}
 use Rattle.frame_text.specs.Fields.{fields, is_name, is_number}
-use Rattle.frame_text.specs.Records.{letter, by_count, by_kind, by_letter, reading}
-use Rattle.frame_text.specs.Order.{first_of, field_faults, faults_of, FirstFaultStands}
+use Rattle.frame_text.specs.Records.{letter, by_kind, by_letter}
+use Rattle.frame_text.specs.Order.{first_of, field_faults, FirstFaultStands}
 
 -- three tests in turn, each with its fault
 in_turn : {X : Type 0} (a b c : Bool) (x : X) (fa fb fc : LineFault) →

@@ -1,13 +1,12 @@
 -- The stages of a line's reading, as the code takes them.
-use Rattle.std.proofs.Common.{◌≡◌, ℕ, suc, ◌+◌, ◌<◌, ◌≤◌, Bool, true, false, cond, eqb, ltb, List, [], ◌∷◌, length, get_or, take, drop, Some, None, Ok, Err, Option, Result, sym, refl, ap, ◌∙◌, inl, inr, add-one, arith}
+use Rattle.std.proofs.Common.{◌≡◌, ℕ, suc, ◌+◌, ◌<◌, ◌≤◌, Bool, true, false, cond, eqb, List, [], ◌∷◌, length, get_or, take, drop, Some, None, Ok, Err, Option, Result, sym, refl, ap, ◌∙◌, inl, inr, add-one, arith}
 use Rattle.std.specs.Result.{result_map_both}
-use Rattle.std.proofs.lemmas.Bool.{ne_eqb, le-ltb, cond-false, cases_eq, cases_Bool}
-use Rattle.std.proofs.lemmas.Bool.Decides.{nat_tests}
+use Rattle.std.proofs.lemmas.Bool.{ne_eqb, le-ltb, cond-false, cases_eq}
 use Rattle.frame_text.specs.declared.faults.FieldFault.{FieldFault}
 use Rattle.frame_text.specs.declared.faults.LineFault.{LineFault}
 use Rattle.frame_text.specs.declared.faults.LineFault.TheVariants as in_line
 use Rattle.frame_text.specs.declared.records.Kind.{Kind}
-use Rattle.frame_text.specs.declared.records.Kind.TheVariants.{Make, Put, Drop, Analyse, Ask}
+use Rattle.frame_text.specs.declared.records.Kind.TheVariants.{Put, Drop, Analyse, Ask}
 use Rattle.frame_text.specs.declared.records.Question.{Question}
 use Rattle.frame_text.specs.Fields.{before, fields, onto_first, is_number}
 use Rattle.frame_text.specs.Parts.{second, third, one_field, two_fields, two_numbers}

@@ -1,5 +1,5 @@
 -- What lines, fields and numbers are, said the other way round: by what they are made of.
-use Rattle.std.specs.Prelude.{◌≡◌, ℕ, Bool, true, false, cond, not, ◌&&◌, List, [], ◌∷◌, ◌++◌, decimal, ◌==◌}
+use Rattle.std.specs.Prelude.{◌≡◌, ℕ, Bool, true, cond, not, ◌&&◌, List, [], ◌∷◌, ◌++◌, decimal, ◌==◌}
 use Rattle.frame_text.specs.Fields.{every, fields, is_number, value_of}
 use Rattle.frame_text.specs.Lines.{lines}
 

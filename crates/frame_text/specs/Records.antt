@@ -1,7 +1,6 @@
 -- What a line says: its kind, its fields, and the statement that they make, or the first fault.
 use Rattle.std.specs.Prelude.{ℕ, Bool, cond, List, [], ◌∷◌, length, Some, None, Ok, Err, Option, Result, ◌==◌, nat_lt, slice_index_or}
 use Rattle.std.specs.Result.{result_map_both}
-use Rattle.frame_text.specs.declared.faults.FieldFault.{FieldFault}
 use Rattle.frame_text.specs.declared.faults.FieldFault.TheVariants as in_field
 use Rattle.frame_text.specs.declared.faults.LineFault.{LineFault}
 use Rattle.frame_text.specs.declared.faults.LineFault.TheVariants as in_line

@@ -1,4 +1,6 @@
 // The frame file as bytes: lines, fields, records, what is wrong with a line, and the blocks of its answers.
+#![tactic(auto)]
+
 pub mod answers;
 pub mod faults;
 pub mod fields;

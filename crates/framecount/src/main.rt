@@ -1,4 +1,6 @@
 // Reads a frame file from standard input and prints the answer to each of its lines.
+#![tactic(auto)]
+
 ghost use Rattle.std.specs.Prelude.{◌≡◌, ℕ, ◌+◌, ◌-◌, ◌<◌, ◌≤◌, List, IfOk, ◌≢◌, slice_index};
 
 use analysis::records::{Entry, Vertex};

@@ -1,6 +1,6 @@
 -- Vertex records that hold a value, and what the gathering makes of them.
 -- The record of vertex v stands at index v - 1.
-use Rattle.std.specs.Prelude.{◌≡◌, ℕ, ◌-◌, ◌<◌, ◌≤◌, cond, List, set, ◌==◌, slice_index_or, slice_set}
+use Rattle.std.specs.Prelude.{◌≡◌, ℕ, ◌-◌, ◌<◌, ◌≤◌, cond, List, ◌==◌, slice_index_or, slice_set}
 use Rattle.pattern.specs.Forest.{subtree}
 use Rattle.gather.specs.Joinings.{joined_over}
 

@@ -1,4 +1,6 @@
 // Joining values up a forest of vertex records. An inner room: its calls may require.
+#![tactic(auto)]
+
 pub mod gathering;
 pub mod joining;
 pub mod kinds;

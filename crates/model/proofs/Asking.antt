@@ -1,5 +1,5 @@
 -- What a question that is not refused reads in the vertex table.
-use Rattle.std.proofs.Common.{◌≡◌, ℕ, suc, ◌-◌, ◌≤◌, Bool, true, false, cond, not, ◌&&◌, ◌||◌, T, eqb, ltb, List, [], ◌∷◌, length, ℤ, pos, nat_abs, None, Ok, Result, sym, refl, ap, ◌∙◌, subst, arith, w32, w64, Fits, to_z, of_z}
+use Rattle.std.proofs.Common.{◌≡◌, ℕ, suc, ◌-◌, ◌≤◌, Bool, true, false, cond, not, ◌&&◌, ◌||◌, T, eqb, ltb, List, [], ◌∷◌, length, ℤ, pos, nat_abs, None, Ok, Result, sym, ap, ◌∙◌, subst, arith, w32, w64, Fits, to_z, of_z}
 use lib.Signed.{non_neg}
 use Rattle.std.proofs.lemmas.Int.{ints}
 use Rattle.std.proofs.lemmas.Bool.{ne_eqb, not-false}

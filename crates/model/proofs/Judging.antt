@@ -1,13 +1,13 @@
 -- Which refusal a put and a drop meet first, from what the code has found out.
-use Rattle.std.proofs.Common.{◌≡◌, ℕ, ◌<◌, ◌≤◌, min, max, Bool, true, false, cond, not, eqb, List, [], ◌∷◌, ◌++◌, length, is_some, Some, None, Ok, Option, sym, refl, ap, ◌∙◌, arith}
+use Rattle.std.proofs.Common.{◌≡◌, ℕ, ◌<◌, ◌≤◌, min, max, Bool, false, not, eqb, [], ◌∷◌, ◌++◌, length, is_some, Some, None, Ok, Option, sym, refl, ap, ◌∙◌, arith}
 use Rattle.std.proofs.lemmas.List.{length-take-le}
-use Rattle.std.proofs.lemmas.Bool.{cond-true, cond-false, eqb-false, eq-eqb, ne_eqb, not-false}
-use Rattle.pattern.specs.Patterns.{within, listed}
+use Rattle.std.proofs.lemmas.Bool.{eqb-false, not-false}
+use Rattle.pattern.specs.Patterns.{listed}
 use Rattle.model.specs.declared.models.Model.{Model}
 use Rattle.model.specs.declared.stores.Store.{Store}
 use Rattle.model.specs.declared.refusals.Refusal.TheVariants.{EntryHeld, ModelFull, EntryNotHeld}
 use Rattle.model.specs.Meaning.{meaning, Outcome}
-use Rattle.model.specs.States.{State, Given, Put, Drop, Rule, accepted, changed, step}
+use Rattle.model.specs.States.{State, Given, Put, Drop, accepted, changed, step}
 use Rattle.model.specs.States.{first_of, first_refusal, entry_rules}
 use Rattle.model.specs.Stored.{held_by, means, Pushed}
 use Rattle.model.specs.Tables.{index_from}

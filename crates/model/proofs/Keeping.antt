@@ -10,7 +10,6 @@ use Rattle.pattern.specs.Elimination.{parent, row_count, col_count, total}
 use Rattle.pattern.specs.Patterns.{Pattern, within}
 use Rattle.model.specs.declared.models.Model.{Model}
 use Rattle.model.specs.declared.stores.Store.{Store}
-use Rattle.model.specs.Meaning.{meaning}
 use Rattle.model.specs.States.{State, largest_order, pattern_in}
 use Rattle.model.specs.Stored.{WhenAnalysed, means}
 use Rattle.model.specs.Tables.{all_within, distinct}

@@ -1,9 +1,9 @@
 -- Which of several rules is met first, and what that makes of a call's outcome.
-use Rattle.std.proofs.Common.{◌≡◌, ℕ, Bool, true, false, cond, List, [], ◌∷◌, ◌++◌, length, Some, None, Ok, Err, Option, sym, refl, ap, ◌∙◌, arith}
+use Rattle.std.proofs.Common.{◌≡◌, ℕ, true, false, List, [], ◌∷◌, ◌++◌, Some, None, Ok, Err, Option, sym, refl, ap, ◌∙◌, arith}
 use Rattle.model.specs.declared.models.Model.{Model}
 use Rattle.model.specs.declared.refusals.Refusal.{Refusal}
 use Rattle.model.specs.Meaning.{meaning, Outcome}
-use Rattle.model.specs.States.{Given, Rule, first_of, first_refusal, accepted, if_accepted, step, answer}
+use Rattle.model.specs.States.{Given, Rule, first_of, first_refusal, accepted, if_accepted, answer}
 
 -- the rules after those that are not met
 pub none_of : (xs ys : List Rule) → first_of xs ≡ None → first_of (xs ++ ys) ≡ first_of ys

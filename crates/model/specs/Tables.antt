@@ -1,5 +1,5 @@
 -- The entries that a table holds: where one stands, that all lie within the order, that none stands twice.
-use Rattle.std.specs.Prelude.{ℕ, ◌+◌, Bool, true, false, cond, not, ◌&&◌, List, [], ◌∷◌, Some, None, Option, ◌==◌, nat_le, nat_lt}
+use Rattle.std.specs.Prelude.{ℕ, ◌+◌, Bool, true, cond, not, ◌&&◌, List, [], ◌∷◌, Some, None, Option, ◌==◌, nat_le, nat_lt}
 use Rattle.analysis.specs.declared.records.Entry.{Entry}
 use Rattle.pattern.specs.Patterns.{listed}
 

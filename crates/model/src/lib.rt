@@ -1,5 +1,7 @@
 // A model: a pattern of some order, its entries put and dropped one by one, and its analysis. Every call either
 // answers or is refused, and a refused call changes nothing.
+#![tactic(auto)]
+
 mod analysing;
 mod changes;
 mod lookup;

@@ -1,6 +1,6 @@
 -- Eliminating the vertices 1, 2, .., n in turn: what is joined after each, the fill, its rows and columns, and the
 -- parents.
-use Rattle.std.specs.Prelude.{ℕ, zero, suc, Bool, true, false, not, ◌&&◌, ◌||◌, List, length, ◌==◌, nat_lt}
+use Rattle.std.specs.Prelude.{ℕ, zero, suc, Bool, not, ◌&&◌, ◌||◌, List, length, ◌==◌, nat_lt}
 use Rattle.pattern.specs.Lists.{upto, keep, first, sum}
 use Rattle.pattern.specs.Patterns.{Pattern, shares}
 

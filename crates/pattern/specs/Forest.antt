@@ -1,6 +1,6 @@
 -- Trees over the vertices 1 to n by a parent function, 0 at a root: the line to the root, subtrees, levels, the walk
 -- and places.
-use Rattle.std.specs.Prelude.{ℕ, zero, suc, ◌-◌, ◌<◌, ◌≤◌, Bool, true, false, cond, List, [], ◌∷◌, ◌++◌, length, nat_eq}
+use Rattle.std.specs.Prelude.{ℕ, zero, suc, ◌-◌, ◌<◌, ◌≤◌, Bool, cond, List, [], ◌∷◌, ◌++◌, length, nat_eq}
 use Rattle.pattern.specs.Lists.{upto, keep, occurs, position, each, least, greatest}
 use Rattle.pattern.specs.Patterns.{within}
 

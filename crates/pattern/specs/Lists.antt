@@ -1,5 +1,5 @@
 -- Lists of vertices: the numbers from 1 up, those that pass a test, the first that does, a number's position.
-use Rattle.std.specs.Prelude.{ℕ, zero, suc, ◌+◌, min, max, Bool, true, false, cond, ◌||◌, List, [], ◌∷◌, ◌++◌, ◌==◌}
+use Rattle.std.specs.Prelude.{ℕ, zero, suc, ◌+◌, min, max, Bool, false, cond, ◌||◌, List, [], ◌∷◌, ◌++◌, ◌==◌}
 
 -- the numbers from 1 to n, ascending
 unfoldable pub upto : ℕ → List ℕ

@@ -1,6 +1,6 @@
 -- A pattern: its order n and its entries, pairs of the vertices 1 to n. A pair may stand twice and either way round;
 -- one that names no two different vertices of the pattern says nothing.
-use Rattle.std.specs.Prelude.{ℕ, Bool, true, false, not, ◌&&◌, ◌||◌, List, [], ◌∷◌, ◌==◌, nat_le}
+use Rattle.std.specs.Prelude.{ℕ, Bool, false, not, ◌&&◌, ◌||◌, List, [], ◌∷◌, ◌==◌, nat_le}
 
 pub record Pattern : Type 0 where
   pub order : ℕ

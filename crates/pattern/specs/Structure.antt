@@ -1,5 +1,5 @@
 -- The factor's structure in columns: where each column starts, and its rows, column after column.
-use Rattle.std.specs.Prelude.{◌≡◌, ℕ, zero, suc, ◌+◌, ◌-◌, ◌<◌, true, ◌&&◌, List, ◌∷◌, map, length, take, nat_lt, slice_index_or, slice_range}
+use Rattle.std.specs.Prelude.{◌≡◌, ℕ, zero, suc, ◌+◌, ◌-◌, ◌<◌, true, ◌&&◌, List, ◌∷◌, map, length, nat_lt, slice_index_or, slice_range}
 use Rattle.pattern.specs.Lists.{upto, keep, each}
 use Rattle.pattern.specs.Patterns.{Pattern, within}
 use Rattle.pattern.specs.Elimination.{fill, col, col_count, total}

@@ -1,4 +1,6 @@
 // The mathematics of elimination. An inner room: its functions only carry theorems; users are not meant to call them.
+#![tactic(auto)]
+
 mod counts;
 mod fill;
 mod frames;

@@ -1,4 +1,6 @@
 // Ancestor sets: vertices in sets, each with a top. A trait by its meaning, and three kinds.
+#![tactic(auto)]
+
 mod followed;
 mod halved;
 mod table;

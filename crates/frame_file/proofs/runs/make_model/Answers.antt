@@ -1,7 +1,6 @@
 -- The making, told as an answer or as a fault of the line.
 use Rattle.std.proofs.Common.{refl}
 use Rattle.frame_text.specs.Records.{part_of}
-use Rattle.frame_text.specs.declared.answers.Answer.TheVariants as says
 use Rattle.frame_file.proofs.Carrying.{made_anew, not_made}
 use Rattle.frame_file.proofs.runs.make_model.Goals as goal
 

@@ -1,5 +1,5 @@
 -- The first byte that is no digit decides, and else the end does.
-use Rattle.std.proofs.Common.{◌≡◌, ◌<◌, true, false, length, get_or, sym, ap, ◌∙◌, arith}
+use Rattle.std.proofs.Common.{sym, ◌∙◌, arith}
 use Rattle.std.specs.Char.{is_ascii_digit}
 use Rattle.std.proofs.lemmas.List.{at_drop_all}
 use Rattle.frame_text.specs.Fields.{every}

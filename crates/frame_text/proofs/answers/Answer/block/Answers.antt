@@ -1,5 +1,5 @@
 -- The text, then the LF, in an empty block.
-use Rattle.std.proofs.Common.{◌≤◌, [], ◌∷◌, ◌++◌, length, ◌∙◌, arith, length-append}
+use Rattle.std.proofs.Common.{◌∙◌}
 use Rattle.frame_text.specs.Answers.{text_of}
 use Rattle.frame_text.proofs.Filling.{whole_text}
 use Rattle.frame_text.proofs.answers.Answer.block.Goals as goal

@@ -1,5 +1,5 @@
 -- One byte more of the bytes, and at the end all of them.
-use Rattle.std.proofs.Common.{[], ◌∷◌, ◌++◌, get_or, take, sym, ap, subst, arith}
+use Rattle.std.proofs.Common.{sym, arith}
 use Rattle.std.proofs.lemmas.List.{take_more, take_all}
 use Rattle.frame_text.proofs.Filling.{adds_then, adds_same}
 use Rattle.frame_text.proofs.answers.Block.push_bytes.Goals as goal

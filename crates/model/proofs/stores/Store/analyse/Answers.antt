@@ -1,4 +1,4 @@
-use Rattle.std.proofs.Common.{◌≡◌, ℕ, ◌≤◌, length, sym, subst, MatchOption}
+use Rattle.std.proofs.Common.{◌≤◌, length, sym, subst, MatchOption}
 use Rattle.model.specs.Analysing.{Analysed, Refused}
 use Rattle.model.specs.declared.stores.Store.{Store}
 use Rattle.model.proofs.Analyses.{Ready, ready_fewer, ready_sound, outcome_store, put_back}
