@@ -11,7 +11,7 @@ pairs_sound (suc (suc (suc (suc zero)))) h = record { from = omega arith; rises 
 pairs_sound (suc (suc (suc (suc (suc k))))) h = absurd (omega arith)
 
 pub analyse-requires : goal.analyse-requires
-analyse-requires c =
+analyse-requires c sets =
     record {
       some = omega arith;
       few = omega arith;

@@ -8,7 +8,7 @@ pairs_sound (suc zero) h = record { from = omega arith; rises = omega arith; wit
 pairs_sound (suc (suc k)) h = absurd (omega arith)
 
 pub analyse-requires : goal.analyse-requires
-analyse-requires c =
+analyse-requires c sets =
     record {
       some = omega arith;
       few = omega arith;

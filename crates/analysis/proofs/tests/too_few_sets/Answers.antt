@@ -7,7 +7,7 @@ pairs_sound zero h = record { from = omega arith; rises = omega arith; within = 
 pairs_sound (suc k) h = absurd (omega arith)
 
 pub analyse-requires : goal.analyse-requires
-analyse-requires c =
+analyse-requires c sets =
     record {
       some = omega arith;
       few = omega arith;
