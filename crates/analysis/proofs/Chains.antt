@@ -10,7 +10,7 @@ use Rattle.analysis.specs.declared.records.Vertex.{Vertex}
 use Rattle.analysis.specs.Tables.{vertex, entry, no_entry, no_vertex, end_of, pairs_of, pair_of, with_link, with_head}
 use Rattle.analysis.specs.Tables.{SoundPair, Sound, first_by, Only}
 use Rattle.analysis.specs.Links.{newest, Linked, AllLinked, headed, linked}
-use Rattle.analysis.proofs.Changes.{vertex_same, vertex_other, get_d_front}
+use Rattle.analysis.proofs.Changes.{vertex_same, vertex_other, get_or_front}
 
 module _ (which : End) (ps : List (ℕ × ℕ)) where
   pub newest_within : (k v : ℕ) → newest which ps k v ≤ k
@@ -76,7 +76,7 @@ linked_none which n ps before vs es long e =
     record {
       heads = λ v p q.
           ap (λ t. (vertex t v).head) e ∙
-          ap (λ x. x.head) (get_d_front (λ x. with_head x 0) n before (v - 1) no_vertex (omega arith) (omega arith));
+          ap (λ x. x.head) (get_or_front (λ x. with_head x 0) n before (v - 1) no_vertex (omega arith) (omega arith));
       links = λ j h. absurd (omega arith);
     }
 

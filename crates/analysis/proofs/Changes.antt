@@ -28,13 +28,13 @@ module _ {X : Type 0} (f : X → X) where
       i < length xs → ys ≡ first_by i f xs → set ys i (f (get_or ys i d)) ≡ first_by (i + 1) f xs
   first_by_more xs ys i d h e = ap (λ t. set t i (f (get_or t i d))) e ∙ rw add-one (first_by_suc xs i d h)
 
-  pub get_d_front : (n : ℕ) (xs : List X) (k : ℕ) (d : X) →
+  pub get_or_front : (n : ℕ) (xs : List X) (k : ℕ) (d : X) →
       k < n → k < length xs → get_or (first_by n f xs) k d ≡ f (get_or xs k d)
   unfolding first_by
-  get_d_front n [] k d l h = absurd (omega arith)
-  get_d_front zero (x ∷ xs) k d l h = absurd (omega arith)
-  get_d_front (suc n) (x ∷ xs) zero d l h = refl
-  get_d_front (suc n) (x ∷ xs) (suc k) d l h = get_d_front n xs k d (omega arith) (omega arith)
+  get_or_front n [] k d l h = absurd (omega arith)
+  get_or_front zero (x ∷ xs) k d l h = absurd (omega arith)
+  get_or_front (suc n) (x ∷ xs) zero d l h = refl
+  get_or_front (suc n) (x ∷ xs) (suc k) d l h = get_or_front n xs k d (omega arith) (omega arith)
 
   pub get_or_rest : (n : ℕ) (xs : List X) (k : ℕ) (d : X) → n ≤ k → get_or (first_by n f xs) k d ≡ get_or xs k d
   unfolding first_by

@@ -23,7 +23,7 @@ use Rattle.analysis.specs.declared.records.Vertex.{Vertex}
 use Rattle.analysis.specs.Tables.{vertex, no_vertex, parent_of, first_by, with_weight}
 use Rattle.analysis.specs.Counts.{Ready, Counted, Counting, Same64, uncounted, ChildrenTaken}
 use Rattle.analysis.specs.Counts.{column_of, total_of}
-use Rattle.analysis.proofs.Changes.{get_d_front}
+use Rattle.analysis.proofs.Changes.{get_or_front}
 
 -- no event has happened
 pub counting_none : (p : Pattern) (vs bs ws : List Vertex) → p.order ≤ length vs → Ready p bs →
@@ -32,7 +32,7 @@ counting_none p vs bs ws long ready is taken =
     let n = p.order in
     let at : (v : ℕ) → 1 ≤ v → v ≤ n → vertex bs v ≡ uncounted (vertex vs v) =
     λ v l h.
-    ap (λ t. vertex t v) is ∙ get_d_front uncounted n vs (v - 1) no_vertex (omega arith) (omega arith) in
+    ap (λ t. vertex t v) is ∙ get_or_front uncounted n vs (v - 1) no_vertex (omega arith) (omega arith) in
     record {
       events = [];
       passing = passing_none p;

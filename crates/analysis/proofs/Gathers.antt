@@ -21,7 +21,7 @@ use Rattle.analysis.specs.declared.records.Vertex.{Vertex}
 use Rattle.analysis.specs.Tables.{vertex, no_vertex, parent_of, first_by, with_weight, with_first, with_deepest}
 use Rattle.analysis.specs.Tables.{weight_from, first_from, deepest_from, Only, SamePast}
 use Rattle.analysis.specs.Order.{Levelled, Sized, Placed, FirstPlaced, Sounded}
-use Rattle.analysis.proofs.Changes.{Takes, weight_takes, first_takes, deepest_takes, get_d_front, only_front, only_then}
+use Rattle.analysis.proofs.Changes.{Takes, weight_takes, first_takes, deepest_takes, get_or_front, only_front, only_then}
 use Rattle.analysis.proofs.Changes.{only_gathered, same_parents, grows_only, past_then, past_front}
 
 sum_ones : (f : ℕ → ℤ) (xs : List ℕ) → ((x : ℕ) → occurs x xs ≡ true → f x ≡ pos 1) → sum_ℤ f xs ≡ pos (length xs)
@@ -79,7 +79,7 @@ module _ {mix : Vertex → Vertex → Vertex} (takes : Takes mix) (keeps : (x y 
       let h = in_subtree n (parent_of vs) v x o in
       let low = h.named in
       let high = h.fits in
-      ap (λ t. vertex t x) is ∙ get_d_front f n vs (x - 1) no_vertex (omega arith) (omega arith)
+      ap (λ t. vertex t x) is ∙ get_or_front f n vs (x - 1) no_vertex (omega arith) (omega arith)
 
   module _ {J : Type 0} {neutral : J} {join : J → J → J} {held : Vertex → J} {holding : Vertex → J → Vertex}
       (holds : (x : Vertex) (j : J) → holding x j ≡ mix x (holding x j)) (ws : List Vertex)

@@ -19,7 +19,7 @@ use Rattle.analysis.specs.Tables.{entry, pair_of, pairs_of, vertex, no_vertex, p
 use Rattle.analysis.specs.Tables.{with_parent, parent_from, Only, first_by}
 use Rattle.analysis.specs.Links.{Linked}
 use Rattle.analysis.specs.Growth.{pattern_of, Fresh, Adopted, adopted, Tree, Rooted, KeptPast}
-use Rattle.analysis.proofs.Changes.{vertex_same, vertex_other, parent_takes, only_none, only_set, get_d_front, get_or_rest}
+use Rattle.analysis.proofs.Changes.{vertex_same, vertex_other, parent_takes, only_none, only_set, get_or_front, get_or_rest}
 use Rattle.analysis.proofs.Chains.{Met, met_head, met_link, head_last, link_last, pair_at, sound_at, lower_at}
 
 pub among_true : (m v : ℕ) → 1 ≤ v → v ≤ m → among m v ≡ true
@@ -206,7 +206,7 @@ rows_none n es s vs ws long is fresh =
     rows_start (pattern_of n es) (parent_of ws) s.top
     (λ v p q.
     ap (λ t. parent_of t v) is ∙
-    ap (λ x. x.parent) (get_d_front (λ x. with_parent x 0) n vs (v - 1) no_vertex (omega arith) (omega arith)))
+    ap (λ x. x.parent) (get_or_front (λ x. with_parent x 0) n vs (v - 1) no_vertex (omega arith) (omega arith)))
     fresh.own
 
 pub past_begun : (n : ℕ) (vs ws : List Vertex) → ws ≡ first_by n (λ x. with_parent x 0) vs → KeptPast n vs ws

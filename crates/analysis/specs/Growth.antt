@@ -1,5 +1,5 @@
 -- The tree grown with ancestor sets: how the sets begin, what one adoption does, and what the tables hold at the end.
-use Rattle.std.specs.Prelude.{◌≡◌, ℕ, ◌-◌, ◌<◌, ◌≤◌, true, cond, List, set, ◌==◌, slice_set}
+use Rattle.std.specs.Prelude.{◌≡◌, ℕ, ◌-◌, ◌<◌, ◌≤◌, true, cond, List, ◌==◌, slice_set}
 use Rattle.pattern.specs.Patterns.{Pattern}
 use Rattle.pattern.specs.Elimination.{parent}
 use Rattle.pattern.specs.Crowns.{AfterRows}
