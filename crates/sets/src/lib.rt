@@ -3,6 +3,7 @@
 
 mod followed;
 mod halved;
+mod links;
 mod refusals;
 mod table;
 mod written;
@@ -10,8 +11,9 @@ mod written;
 ghost use Rattle.std.specs.Prelude.{is_ok};
 ghost use Rattle.sets.specs.Meaning.{Sets, Sound, Started, Found, Merged};
 
-pub use followed::FollowedLinks;
-pub use halved::HalvedLinks;
+pub use followed::{Followed, FollowedLinks};
+pub use halved::{HalvedLinks, Halving};
+pub use links::Links;
 pub use refusals::{NoRoom, NotTops};
 pub use written::WrittenTops;
 
