@@ -1,12 +1,11 @@
 -- Sets by links: what each call owes, and how a find goes along them.
-use Rattle.std.proofs.Common.{◌≡◌, ℕ, suc, ◌-◌, ◌<◌, ◌≤◌, Bool, true, false, cond, eqb, ◌⊎◌, List, length, get_or, set, Some, sym, refl, ap, ◌∙◌, subst, inl, inr, arith, length-set, get_or-set_other, get_or-set_same}
-use Rattle.std.proofs.lemmas.Bool.{cases_eq, eq-eqb, ne_eqb}
+use Rattle.std.proofs.Common.{◌≡◌, ℕ, suc, ◌-◌, ◌<◌, ◌≤◌, Bool, true, false, cond, eqb, ◌⊎◌, List, length, set, Some, sym, refl, ap, ◌∙◌, subst, inl, inr, arith, length-set}
 use Rattle.std.proofs.lemmas.Bool.Decides.{nat_tests}
 use Rattle.sets.specs.Meaning.{among, mergeable, Started, Found, Merged}
-use Rattle.sets.specs.Tables.{number, room, two_tops, Stays, Begun, Hung}
+use Rattle.sets.specs.Tables.{number, two_tops, Begun, Hung}
 use Rattle.sets.specs.Links.{elsewhere, end_of, linked_sets, Ends, Linked, Ended}
 use Rattle.sets.specs.Soundness.{follow_own}
-use Rattle.sets.proofs.Linking.{Leads, leads, linked, ends_at, way, way_short, elsewhere_more, Relinked}
+use Rattle.sets.proofs.Linking.{Leads, leads, linked, ends_at, way, way_short, elsewhere_more}
 use Rattle.sets.proofs.Linking.{merged, halved, halved_elsewhere}
 use Rattle.sets.proofs.Tables.{relinked}
 use Rattle.sets.proofs.Owed.{moved, begun_keeps, started_of, found_of, mergeable_is, merged_of}
@@ -139,17 +138,15 @@ halving_step : (m : ℕ) (xs : List ℕ) (v : ℕ) (ys : List ℕ) (at : ℕ) �
     (number ys at ≡ at → ⊥) →
     Going m xs v (set ys (at - 1) (number ys (number ys at))) (number ys (number ys at))
 halving_step m xs v ys at h long off =
-    let f = number ys in
+    let two_on = following _ (following _ h refl) refl in
     let l = h.leading in
-    let i = h.inside in
-    let up_in = l.stays at i in
-    let store = relinked ys m at (f (f at)) i (omega (arith, h.long)) in
+    let store = relinked ys m at (number ys (number ys at)) h.inside (omega (arith, h.long)) in
     record {
       long = length-set _ _ _ ∙ h.long;
-      leading = halved _ at l i off store;
-      as_many = halved_elsewhere _ at l i off store ∙ h.as_many;
-      inside = l.stays (f at) up_in;
-      same_end = l.along (f at) up_in ∙ l.along at i ∙ h.same_end;
+      leading = halved _ at l h.inside off store;
+      as_many = halved_elsewhere _ at l h.inside off store ∙ h.as_many;
+      inside = two_on.inside;
+      same_end = two_on.same_end;
     }
 
 -- `next` is where the link of `at` links, and `at` is not its own top
@@ -195,9 +192,6 @@ going_ends m xs v ys at h own =
       linked = linked l short;
       same_ends = ends_at l short;
     }
-
-pub ended_ends : {xs ys : List ℕ} {m k v r : ℕ} → k ≡ m → Ended xs m v r ys → Ends k (number ys)
-ended_ends {ys = ys} used h = moved {xs = ys} (λ zs j. Ends j (number zs)) used refl h.linked.ends
 
 pub ended_found : {xs ys : List ℕ} {m k v r : ℕ} → k ≡ m → Ended xs m v r ys → true ≡ among m v →
     Found (linked_sets xs m) v (Some r) (linked_sets ys k)

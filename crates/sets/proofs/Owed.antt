@@ -1,5 +1,5 @@
 -- What every kind of sets owes for its calls, from what is so of its table and its tops.
-use Rattle.std.proofs.Common.{◌≡◌, ℕ, ◌≤◌, min, Bool, true, false, cond, ◌&&◌, eqb, List, length, Some, None, Option, sym, refl, ap, subst, arith}
+use Rattle.std.proofs.Common.{◌≡◌, ℕ, min, Bool, true, false, cond, ◌&&◌, eqb, List, length, Some, None, Option, sym, refl, ap, subst, arith}
 use Rattle.std.proofs.lemmas.Bool.Decides.{nat_tests}
 use Rattle.sets.specs.Meaning.{limit, among, mergeable, Started, Found, Merged}
 use Rattle.sets.specs.Tables.{number, sets_of, two_tops, Begun}

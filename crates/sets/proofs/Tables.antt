@@ -81,7 +81,7 @@ rewritten_of xs ys m v p i fits end is =
     let f = becomes v p in
     let front = take m xs in
     let all : ys ≡ map f front =
-        is ∙ ap (λ l. map f (take i front) ++ l) (drop_all i front end) ∙ append-nil _ ∙ ap (map f) (take_all i front end) in
+    is ∙ ap (λ l. map f (take i front) ++ l) (drop_all i front end) ∙ append-nil _ ∙ ap (map f) (take_all i front end) in
     let short = length-take-le m xs fits in
     let long : length ys ≡ m = ap length all ∙ length-map front f ∙ short in
     record {

@@ -1,8 +1,8 @@
 -- Sets whose tops are written out: what each call owes.
-use Rattle.std.proofs.Common.{◌≡◌, ℕ, ◌≤◌, Bool, true, List, refl, ap, ◌∙◌, subst, arith}
+use Rattle.std.proofs.Common.{◌≡◌, ℕ, Bool, true, List, refl, ap, ◌∙◌, subst, arith}
 use Rattle.std.proofs.lemmas.Bool.Decides.{nat_tests}
 use Rattle.sets.specs.Meaning.{among, Started, Merged}
-use Rattle.sets.specs.Tables.{number, room, written_sets, two_tops, Stays, Rests, Begun, Rewritten}
+use Rattle.sets.specs.Tables.{number, written_sets, two_tops, Stays, Rests, Begun, Rewritten}
 use Rattle.sets.proofs.Owed.{moved, begun_keeps, started_of, mergeable_is, merged_of}
 
 pub begun_rests : {xs ys : List ℕ} {m n k : ℕ} {r : Bool} → Begun xs m n r ys k → Rests m (number xs) →

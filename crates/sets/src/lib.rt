@@ -11,9 +11,8 @@ mod written;
 ghost use Rattle.std.specs.Prelude.{is_ok};
 ghost use Rattle.sets.specs.Meaning.{Sets, Sound, Started, Found, Merged};
 
-pub use followed::{Followed, FollowedLinks};
-pub use halved::{HalvedLinks, Halving};
-pub use links::Links;
+pub use followed::FollowedLinks;
+pub use halved::HalvedLinks;
 pub use refusals::{NoRoom, NotTops};
 pub use written::WrittenTops;
 

@@ -5,13 +5,13 @@ ghost use Rattle.sets.specs.Meaning.{among, Made};
 ghost use Rattle.sets.specs.Soundness.{sound_linked};
 ghost use Rattle.sets.specs.Tables.{number};
 
-use std::marker::PhantomData;
-
 use super::table::Table;
 use super::{AncestorSets, NoRoom, NotTops};
+use std::marker::PhantomData;
 
-// How a find goes to the end of the links. It may relink its way, so long as all ways end as before.
-pub trait Way: Drop {
+// How a find goes to the end of the links. It may relink its way, so long as all ways end as before. Kept inside the
+// crate, since it requires what only the types of sets keep.
+pub trait Way {
     // The end of the links from v.
     fn end(table: &mut Table<'_>, v: u32) -> u32
         requires ends { Ends table.old.used (number table.old.numbers.now) }

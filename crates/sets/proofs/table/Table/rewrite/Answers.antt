@@ -12,8 +12,8 @@ loop-number-preserved c =
     let n = get_or l.number-items l.number-index 0 in
     let store = λ (b : Bool). set l.number-items l.number-index (cond b c.args.p n) in
     let more =
-        map_over_more (becomes c.args.v c.args.p) _ _ _ n c.loop-number-test.true l.invariant
-        (get_or_default l.number-items l.number-index 0 n (omega arith))
+    map_over_more (becomes c.args.v c.args.p) _ _ _ n c.loop-number-test.true l.invariant
+    (get_or_default l.number-items l.number-index 0 n (omega arith))
     in
     elim c.if-number-v.branch [
       | then-number-v w ↦ w.number-items-is ∙ sym (ap store (eq-eqb n c.args.v w.if-number-v.true)) ∙ more
