@@ -1,4 +1,5 @@
 pub mod Linking
+pub mod Tables
 pub mod Owed
 pub mod LinkSets
 pub mod TopSets

@@ -1,8 +1,8 @@
 -- What every kind of sets owes for its calls, from what is so of its table and its tops.
-use Rattle.std.proofs.Common.{◌≡◌, ℕ, ◌≤◌, min, Bool, true, false, cond, ◌&&◌, eqb, List, length, Some, None, Option, sym, refl, ap, subst, arith}
+use Rattle.std.proofs.Common.{◌≡◌, ℕ, min, Bool, true, false, cond, ◌&&◌, eqb, List, length, Some, None, Option, sym, refl, ap, subst, arith}
 use Rattle.std.proofs.lemmas.Bool.Decides.{nat_tests}
 use Rattle.sets.specs.Meaning.{limit, among, mergeable, Started, Found, Merged}
-use Rattle.sets.specs.Tables.{number, room, sets_of, two_tops, Begun}
+use Rattle.sets.specs.Tables.{number, sets_of, two_tops, Begun}
 
 -- what is so of a table is so of the same table
 pub moved : {xs ys : List ℕ} {m k : ℕ} (P : List ℕ → ℕ → Type 0) → k ≡ m → ys ≡ xs → P xs m → P ys k
@@ -10,12 +10,9 @@ moved {xs} {ys} {m} {k} P e f h = subst (λ j. P ys j) (sym e) (subst (λ zs. P 
 
 -- after a start, what was so of the table still is, or every number in use is its own vertex
 pub begun_keeps : {xs ys : List ℕ} {m n k : ℕ} (r : Bool) (P : List ℕ → ℕ → Type 0) → Begun xs m n r ys k → P xs m →
-    (k ≤ room ys → ((x : ℕ) → among k x ≡ true → number ys x ≡ x) → P ys k) → P ys k
+    (((x : ℕ) → among k x ≡ true → number ys x ≡ x) → P ys k) → P ys k
 begun_keeps {xs} {ys} {m} {n} {k} true P b old new =
-    let a = b.accepted in
-    let l = b.long in
-    let e = b.used in
-    new (grind (arith, nat_tests)) (λ x i. b.own refl x (grind (arith, nat_tests)))
+    let e = b.used in new (λ x i. b.own refl x (grind (arith, nat_tests)))
 begun_keeps false P b old new = moved P b.used (b.same refl) old
 
 pub started_of : {xs ys : List ℕ} {m n k : ℕ} (r : Bool) (t t' : ℕ → ℕ) → Begun xs m n r ys k →

@@ -1,47 +1,30 @@
--- Sets whose tops are written out: what their struct keeps, and what each call owes.
-use Rattle.std.proofs.Common.{◌≡◌, ℕ, ◌≤◌, Bool, true, List, refl, ap, ◌∙◌, subst, arith}
+-- Sets whose tops are written out: what each call owes.
+use Rattle.std.proofs.Common.{◌≡◌, ℕ, Bool, true, List, refl, ap, ◌∙◌, subst, arith}
 use Rattle.std.proofs.lemmas.Bool.Decides.{nat_tests}
 use Rattle.sets.specs.Meaning.{among, Started, Merged}
-use Rattle.sets.specs.Tables.{number, room, written_sets, two_tops, Stays, Rests, Begun, Rewritten}
+use Rattle.sets.specs.Tables.{number, written_sets, two_tops, Stays, Rests, Begun, Rewritten}
 use Rattle.sets.proofs.Owed.{moved, begun_keeps, started_of, mergeable_is, merged_of}
 
-abbrev pub Kept : List ℕ → ℕ → Type 0
-Kept xs m = record { fits : m ≤ room xs; stays : Stays m (number xs); rests : Rests m (number xs) }
-
-pub begun_kept : {xs ys : List ℕ} {m n k : ℕ} {r : Bool} → Begun xs m n r ys k → Kept xs m → Kept ys k
-begun_kept {xs} {ys} {m} {n} {k} {r} b kept =
-    begun_keeps r Kept b kept
-    (λ fits own. record {
-      fits = fits;
-      stays = λ v i. let o = own v i in rw o i;
-      rests = λ v i. let o = own v i in ap (number ys) o;
-    })
+pub begun_rests : {xs ys : List ℕ} {m n k : ℕ} {r : Bool} → Begun xs m n r ys k → Rests m (number xs) →
+    Rests k (number ys)
+begun_rests {xs} {ys} {m} {n} {k} {r} b rests =
+    begun_keeps r (λ zs j. Rests j (number zs)) b rests (λ own v i. let o = own v i in ap (number ys) o)
 
 pub begun_started : {xs ys : List ℕ} {m n k : ℕ} {r : Bool} → Begun xs m n r ys k →
     Started (written_sets xs m) n r (written_sets ys k)
 begun_started {xs} {ys} {r} b =
     started_of r (number xs) (number ys) b b.own (λ e x. ap (λ zs. number zs x) (b.same e))
 
-pub rewritten_kept : {xs ys : List ℕ} {m k v p : ℕ} → k ≡ m → Rewritten xs m v p ys →
-    true ≡ two_tops m (number xs) v p → Kept xs m → Kept ys k
-rewritten_kept {xs} {ys} {m} {k} {v} {p} used w ok kept =
-    let long = w.long in
-    let fits = kept.fits in
-    record {
-      fits = omega arith;
-      stays = λ x i.
-          let n = w.numbers x (subst (λ j. among j x ≡ true) used i) in
-          let s = kept.stays x (subst (λ j. among j x ≡ true) used i) in
-          grind (arith, nat_tests);
-      rests = λ x i.
-          let ix = subst (λ j. among j x ≡ true) used i in
-          let s = kept.stays x ix in
-          let n = w.numbers x ix in
-          let ns = w.numbers (number xs x) s in
-          let np = w.numbers p (grind (arith, nat_tests)) in
-          let r = kept.rests x ix in
-          grind (arith, nat_tests);
-    }
+pub rewritten_rests : {xs ys : List ℕ} {m k v p : ℕ} → k ≡ m → Rewritten xs m v p ys →
+    true ≡ two_tops m (number xs) v p → Stays m (number xs) → Rests m (number xs) → Rests k (number ys)
+rewritten_rests {xs} {ys} {m} {k} {v} {p} used w ok stays rests x i =
+    let ix = subst (λ j. among j x ≡ true) used i in
+    let s = stays x ix in
+    let n = w.numbers x ix in
+    let ns = w.numbers (number xs x) s in
+    let np = w.numbers p (grind (arith, nat_tests)) in
+    let r = rests x ix in
+    grind (arith, nat_tests)
 
 pub rewritten_merged : {xs ys : List ℕ} {m k v p : ℕ} → k ≡ m → Rewritten xs m v p ys →
     true ≡ two_tops m (number xs) v p → Merged (written_sets xs m) v p true (written_sets ys k)

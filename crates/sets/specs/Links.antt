@@ -30,8 +30,8 @@ pub record Linked (m : ℕ) (f : ℕ → ℕ) : Type 0 where
   pub stays : Stays m f
   pub ends : Ends m f
 
--- halving from v answers r and turns the links xs of 1 to m into ys: r is the end of the way, all ways end as before
-pub record Halved (xs : List ℕ) (m v r : ℕ) (ys : List ℕ) : Type 0 where
+-- going from v to the end of its way answers r and turns the links xs of 1 to m into ys: all ways end as before
+pub record Ended (xs : List ℕ) (m v r : ℕ) (ys : List ℕ) : Type 0 where
   pub answer : r ≡ end_of m (number xs) v
   pub long : length ys ≡ length xs
   pub linked : Linked m (number ys)

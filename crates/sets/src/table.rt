@@ -1,31 +1,54 @@
 // A number for each vertex in use, in numbers that are lent: what the kinds of sets have in common.
-ghost use Rattle.std.specs.Prelude.{◌≡◌, ◌-◌, ◌≤◌, true, length, slice_set};
+ghost use Rattle.std.specs.Prelude.{◌≡◌, ◌-◌, ◌≤◌, true, is_ok, length, nat_le, slice_set};
 ghost use Rattle.sets.specs.Meaning.{among};
-ghost use Rattle.sets.specs.Tables.{number, own, two_tops, Begun, Hung};
+ghost use Rattle.sets.specs.Tables.{number, room, own, two_tops, Begun, Hung, Stays};
+
+use super::{NoRoom, NotTops};
 
 // The most vertices that sets have room for.
 const LIMIT: u32 = 16_384;
 
+// Each vertex in use has room, and a number that is a vertex in use.
 #[derive(Drop)]
 pub struct Table<'a> {
     pub numbers: &'a mut [u32],
     pub used: u32,
+    ghost fits: { used ≤ room numbers.now },
+    ghost stays: { Stays used (number numbers.now) },
+}
+
+impl<'a> Table<'a> {
+    // A table over the numbers lent, with none in use yet.
+    pub(crate) fn new(numbers: &'a mut [u32]) -> Self
+        ensures lent { result.numbers.now ≡ numbers.old }
+        ensures none { result.used ≡ 0 }
+    {
+        Table { numbers, used: 0 }
+    }
 }
 
 impl Table<'_> {
-    // Has 1 to n in use, each with itself as its number. Refused if there is no room for n.
-    pub(crate) fn start(&mut self, n: u32) -> bool
-        ensures { Begun self.old.numbers.now self.old.used n result
-            self.new.numbers.now self.new.used }
+    // Refuses n if there is no room for it.
+    fn judge_start(&self, n: u32) -> Result<(), NoRoom>
+        ensures { is_ok result ≡ nat_le n (room self.now.numbers.now) }
     {
         if n > LIMIT || n as usize > self.numbers.len() {
-            return false;
+            return Err(NoRoom);
         }
-        for i in 0..n {
-            self.numbers[i as usize] = i + 1;
+        Ok(())
+    }
+
+    // Has 1 to n in use, each with itself as its number. Refused if there is no room for n.
+    pub(crate) fn start(&mut self, n: u32) -> Result<(), NoRoom>
+        ensures { Begun self.old.numbers.now self.old.used n (is_ok result)
+            self.new.numbers.now self.new.used }
+    {
+        self.judge_start(n)?;
+        for (i, number) in self.numbers[..n as usize].iter_mut().enumerate() {
+            *number = i as u32 + 1;
         }
         self.used = n;
-        true
+        Ok(())
     }
 
     // Whether v is in use.
@@ -37,8 +60,7 @@ impl Table<'_> {
 
     // The number of v.
     pub(crate) fn get(&self, v: u32) -> u32
-        requires fits { self.now.used ≤ length self.now.numbers.now }
-        requires has { among self.now.used v ≡ true }
+        requires { among self.now.used v ≡ true }
         ensures { result ≡ number self.now.numbers.now v }
     {
         self.numbers[v as usize - 1]
@@ -46,8 +68,8 @@ impl Table<'_> {
 
     // Makes w the number of v.
     pub(crate) fn put(&mut self, v: u32, w: u32)
-        requires fits { self.old.used ≤ length self.old.numbers.now }
         requires has { among self.old.used v ≡ true }
+        requires has_number { among self.old.used w ≡ true }
         ensures kept { self.new.used ≡ self.old.used }
         ensures stored { self.new.numbers.now ≡ slice_set self.old.numbers.now (v - 1) w }
     {
@@ -56,30 +78,28 @@ impl Table<'_> {
 
     // Whether v is in use and its number is v itself.
     fn owns(&self, v: u32) -> bool
-        requires { self.now.used ≤ length self.now.numbers.now }
         ensures { result ≡ own self.now.used (number self.now.numbers.now) v }
     {
         self.has(v) && self.get(v) == v
     }
 
-    // Whether v and p are two different own tops.
-    pub(crate) fn owns_both(&self, v: u32, p: u32) -> bool
-        requires { self.now.used ≤ length self.now.numbers.now }
-        ensures { result ≡ two_tops self.now.used (number self.now.numbers.now) v p }
+    // Refuses v and p unless they are two different own tops.
+    pub(crate) fn judge_merge(&self, v: u32, p: u32) -> Result<(), NotTops>
+        ensures { is_ok result ≡ two_tops self.now.used (number self.now.numbers.now) v p }
     {
-        self.owns(v) && self.owns(p) && v != p
+        if self.owns(v) && self.owns(p) && v != p {
+            return Ok(());
+        }
+        Err(NotTops)
     }
 
     // Links v to p. Refused unless they are two different own tops.
-    pub(crate) fn hang(&mut self, v: u32, p: u32) -> bool
-        requires { self.old.used ≤ length self.old.numbers.now }
+    pub(crate) fn hang(&mut self, v: u32, p: u32) -> Result<(), NotTops>
         ensures kept { self.new.used ≡ self.old.used }
-        ensures hung { Hung self.old.numbers.now self.old.used v p result self.new.numbers.now }
+        ensures hung { Hung self.old.numbers.now self.old.used v p (is_ok result) self.new.numbers.now }
     {
-        if !self.owns_both(v, p) {
-            return false;
-        }
+        self.judge_merge(v, p)?;
         self.put(v, p);
-        true
+        Ok(())
     }
 }

@@ -1,10 +1,12 @@
-use Rattle.std.proofs.Common.{◌<◌, ◌≢◌, length, ◌∙◌, arith, length-set, get_or-set_other, get_or-set_same, below_more}
+use Rattle.sets.proofs.Tables.{begun_of, begun_kept}
 use Rattle.sets.proofs.table.Table.start.Goals as goal
 
-pub loop-i-preserved : goal.loop-i-preserved
-loop-i-preserved c = (
-  length-set _ _ _ ∙ c.loop-i.invariant.0,
-  below_more _ _
-      (λ k h. let ne : k ≢ c.loop-i.i = omega arith in rw get_or-set_other (c.loop-i.invariant.1 k h))
-      (let lt : c.loop-i.i < length c.loop-i.self.numbers.now = omega arith in rw get_or-set_same),
-)
+pub invariant_of-self : goal.invariant_of-self
+invariant_of-self c =
+    let t = c.args.self.now in
+    begun_kept _ _ t.used _
+    (begun_of t.numbers.now _ _ _ _ c.in_ok-judge_start.ensures c.loop-i.auto.number-items c.loop-i-test.false c.loop-i.invariant)
+
+pub returns : goal.returns
+returns c =
+    begun_of _ _ _ _ _ c.in_ok-judge_start.ensures c.loop-i.auto.number-items c.loop-i-test.false c.loop-i.invariant
