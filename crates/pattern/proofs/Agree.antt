@@ -18,7 +18,7 @@ use Rattle.pattern.specs.Forest.{
   first_place,
   height,
 }
-use Rattle.pattern.specs.Walks.{size, at_place}
+use Rattle.pattern.specs.Walks.{at_place}
 use Rattle.pattern.proofs.Tests.{within_parts}
 use Rattle.pattern.proofs.Lists.{in_upto}
 
@@ -61,10 +61,6 @@ module _ (n : ℕ) (up up' : ℕ → ℕ) (same : (v : ℕ) → 1 ≤ v → v �
   pub subtree_agrees : (v : ℕ) → subtree n up v ≡ subtree n up' v
   unfolding subtree
   subtree_agrees v = keep_agrees _ _ (upto n) (λ x o. under_agrees x v)
-
-  pub size_agrees : (v : ℕ) → size n up v ≡ size n up' v
-  unfolding size
-  size_agrees v = ap length (subtree_agrees v)
 
   pub level_agrees : (v : ℕ) → level n up v ≡ level n up' v
   unfolding level

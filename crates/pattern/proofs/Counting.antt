@@ -28,13 +28,13 @@ use Rattle.pattern.specs.Counts.{
 }
 use Rattle.pattern.proofs.Tests.{Vertex, same_test, eqb_swap}
 use Rattle.pattern.proofs.Lists.{occurs_append, in_upto, in_keep, keep_occurs, sum_append}
-use Rattle.pattern.proofs.Sums.{sum_exchange, count_is_sum}
+use Rattle.pattern.proofs.Sums.{sum_plus, sum_exchange, count_is_sum}
 use Rattle.pattern.proofs.Lines.{under_self, under_le, under_trans, under_chain, under_of}
 use Rattle.pattern.proofs.Joins.{shares_parts}
 use Rattle.pattern.proofs.Paths.{edge}
 use Rattle.pattern.proofs.Tree.{parents_grow, way_climb}
 use Rattle.pattern.proofs.Rows.{fill_touches, touches_fill}
-use Rattle.pattern.proofs.Tallies.{bit, sum_plus, sum_same, sum_zero, sum_keep, sum_at, sum_scale, length_is_sum}
+use Rattle.pattern.proofs.Tallies.{bit, sum_same, sum_zero, sum_keep, sum_at, sum_scale, length_is_sum}
 use Rattle.pattern.proofs.Forest.{
   depth_more,
   level_depth,

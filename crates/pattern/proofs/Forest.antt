@@ -8,9 +8,9 @@ use Rattle.pattern.specs.Forest.{Grows, line_from, line, under, subtree, level, 
 use Rattle.pattern.specs.Walks.{size}
 use Rattle.pattern.proofs.Tests.{Vertex, within_from, outside, eqb_swap}
 use Rattle.pattern.proofs.Lists.{in_upto, keep_occurs, sum_grows, length_upto}
-use Rattle.pattern.proofs.Sums.{sum_exchange, count_is_sum}
+use Rattle.pattern.proofs.Sums.{sum_plus, sum_exchange, count_is_sum}
 use Rattle.pattern.proofs.Lines.{enough, climb_of, climb_end, climb_start, under_step, under_self, under_le}
-use Rattle.pattern.proofs.Tallies.{bit, bit_bound, length_is_sum, sum_plus, sum_same, sum_zero, sum_keep, sum_at}
+use Rattle.pattern.proofs.Tallies.{bit, bit_bound, length_is_sum, sum_same, sum_zero, sum_keep, sum_at}
 
 -- the length of the line: the level and one more, and 0 at 0
 unfoldable pub depth : ℕ → (ℕ → ℕ) → ℕ → ℕ

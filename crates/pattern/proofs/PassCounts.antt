@@ -10,7 +10,8 @@ use Rattle.pattern.specs.Counts.{unfalling, RowFrom, stops}
 use Rattle.pattern.specs.Passes.{happened, last_met, bend_at, row_so_far, Passing, Passed}
 use Rattle.pattern.proofs.Tests.{Vertex, same_test}
 use Rattle.pattern.proofs.Lists.{occurs_append, in_upto, sum_grows, length_upto}
-use Rattle.pattern.proofs.Tallies.{bit, bit_bound, sum_plus, sum_same, length_is_sum}
+use Rattle.pattern.proofs.Sums.{sum_plus}
+use Rattle.pattern.proofs.Tallies.{bit, bit_bound, sum_same, length_is_sum}
 use Rattle.pattern.proofs.Lines.{under_self, under_trans}
 use Rattle.pattern.proofs.Joins.{shares_parts}
 use Rattle.pattern.proofs.Tree.{parents_grow}
@@ -230,21 +231,6 @@ module _ (p : Pattern) where
       let d = length_upto n in
       omega arith
 
-  -- and only grows
-  pub row_grows : (u : ℕ) (newer older : List (ℕ × ℕ)) → row_so_far p u older ≤ row_so_far p u (newer ++ older)
-  row_grows u [] older = omega arith
-  row_grows u ((x, w) ∷ newer) older = go (cases_eq w u) (row_grows u newer older)
-    where
-      all : List (ℕ × ℕ)
-      all = newer ++ older
-
-      go : (w ≡ u) ⊎ (w ≡ u → ⊥) → row_so_far p u older ≤ row_so_far p u all →
-          row_so_far p u older ≤ row_so_far p u ((x, w) ∷ all)
-      go (inl e) i =
-          let a = row_own p x u all in
-          subst (λ w. row_so_far p u older ≤ row_so_far p u ((x, w) ∷ all)) (sym e) (omega arith)
-      go (inr d) i = let a = row_other p x w all u d in omega arith
-
   -- the events of u, from the oldest to the newest, serve row u
   met_placed : (u : ℕ) (es : List (ℕ × ℕ)) → Passing p es → unfalling (place_of p) (met u es) ≡ true
   unfolding met unfalling
@@ -309,12 +295,4 @@ module _ (p : Pattern) where
       let e = depth_counts n (parent p) (parents_grow p) (parent p u) ((parents_grow p).stays u low high) in
       let f = depth_more n (parent p) (parents_grow p) u h in
       let g = level_depth n (parent p) (parents_grow p) u h in
-      omega arith
-
-  -- every row so far is at most the whole row
-  pub row_part : (newer older : List (ℕ × ℕ)) → Passed p (newer ++ older) → (u : ℕ) → 1 ≤ u → u ≤ p.order →
-      row_so_far p u older ≤ row_count p u
-  row_part newer older q u low high =
-      let a = row_grows u newer older in
-      let b = row_passed (newer ++ older) q u low high in
       omega arith

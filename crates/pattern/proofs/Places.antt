@@ -8,7 +8,7 @@ use Rattle.pattern.specs.Forest.{Grows, under, children, visit, walk, place, sub
 use Rattle.pattern.specs.Walks.{size, at_place, EachOnce, Interval, SiblingsAscend, times}
 use Rattle.pattern.proofs.Tests.{Vertex}
 use Rattle.pattern.proofs.Lists.{occurs_append, keep_occurs, in_keep, keep_has, sum_grows, sum_append, keep_none}
-use Rattle.pattern.proofs.Sums.{count_is_sum}
+use Rattle.pattern.proofs.Sums.{sum_plus, count_is_sum}
 use Rattle.pattern.proofs.Lines.{under_self, under_le}
 use Rattle.pattern.proofs.Forest.{under_parts, in_children, size_by_children}
 use Rattle.pattern.proofs.Tallies.{
@@ -29,7 +29,6 @@ use Rattle.pattern.proofs.Tallies.{
   least_ge,
   greatest_ge,
   sum_keep,
-  sum_plus,
   sum_at,
 }
 use Rattle.pattern.proofs.Walk.{
@@ -297,11 +296,6 @@ module _ (n : ℕ) (up : ℕ → ℕ) (grows : Grows n up) where
       let k = under_le n up grows w v (a.outer w g (omega arith) (omega arith)) in
       let m = under_le n up grows v w (b.outer v h (omega arith) (omega arith)) in
       omega arith
-
-  pub at_place_of : (v : ℕ) → Vertex n v → at_place n up (place n up v) ≡ v
-  at_place_of v h =
-      let b = place_bounds v h in
-      place_apart _ v (at_place_vertex _ b.0 b.1) h (place_at _ b.0 b.1)
 
   pub each_once : EachOnce n up
   unfolding times

@@ -16,11 +16,6 @@ pub bit_bound : (b : Bool) → bit b ≤ 1
 bit_bound true = omega arith
 bit_bound false = omega arith
 
-pub sum_plus : (f g : ℕ → ℕ) (xs : List ℕ) → sum (λ x. f x + g x) xs ≡ sum f xs + sum g xs
-unfolding sum
-sum_plus f g [] = omega arith
-sum_plus f g (x ∷ xs) = let i = sum_plus f g xs in omega arith
-
 -- the sums of two functions that agree on the list
 pub sum_same : (f g : ℕ → ℕ) (xs : List ℕ) → ((x : ℕ) → occurs x xs ≡ true → f x ≡ g x) → sum f xs ≡ sum g xs
 unfolding sum occurs

@@ -4,7 +4,7 @@ use Rattle.std.proofs.lemmas.Bool.{cases_eq, and_parts, and_from, both_ways, ltb
 use Rattle.pattern.specs.Patterns.{Pattern}
 use Rattle.pattern.specs.Elimination.{fill, parent}
 use Rattle.pattern.specs.Forest.{Grows}
-use Rattle.pattern.specs.Fill.{in_subtree, below}
+use Rattle.pattern.specs.Fill.{below}
 use Rattle.pattern.proofs.Tests.{Vertex}
 use Rattle.pattern.proofs.Lists.{First, nothing, found, first_tells}
 use Rattle.pattern.proofs.Lines.{Climb, here, step, climb_of, under_of, climb_start}
@@ -45,14 +45,6 @@ module _ (p : Pattern) where
       go : RootOr p v (parent p v) → IsParent p v (parent p v)
       go (inl (none, _)) = absurd (omega (arith, some, none))
       go (inr it) = it
-
-  pub parent_unique : (v u : ℕ) → IsParent p v u → parent p v ≡ u
-  parent_unique v u it = go (parent_tells v)
-    where
-      go : RootOr p v (parent p v) → parent p v ≡ u
-      go (inl (_, none)) = absurd (none u it.above it.joins)
-      go (inr q) =
-          omega (arith, q.smallest u it.above it.joins, it.smallest (parent p v) q.above q.joins)
 
   pub parents_grow : Grows p.order (parent p)
   parents_grow = record { rises = λ v _ _ some. (parent_is v some).above; stays = λ v _ _. stay v (parent_tells v) }
@@ -142,12 +134,6 @@ module _ (p : Pattern) where
 
   pub way_climb : (u v : ℕ) → v < u → Way p u u v → Climb p.order (parent p) u v
   way_climb u v less w = way_up u u v less (omega arith) w
-
-  -- the fill joins only what lies above
-  pub fill_above : (v w : ℕ) → v < w → fill p v w ≡ true → in_subtree p v w ≡ true
-  fill_above v w less e =
-      under_of p.order (parent p) parents_grow
-      (way_climb w v less (wider (omega (arith, less)) (fill_way v w less e)))
 
   pub below_way : (v u : ℕ) → below p v u ≡ true → (v < u) × Way p u u v
   unfolding below
