@@ -2,6 +2,7 @@
 use Rattle.std.proofs.Common.{◌≡◌, ℕ, suc, ◌+◌, ◌-◌, ◌<◌, ◌≤◌, Bool, true, false, cond, ◌&&◌, ◌||◌, eqb, leb, ◌⊎◌, List, [], ◌∷◌, ◌++◌, length, sym, refl, ap, ◌∙◌, subst, inl, inr, arith}
 use Rattle.std.proofs.lemmas.Bool.{cases_Bool, both_ways, false≢true, or_cases, or_left, or_right, or_from, or_parts, and_parts, and_from, eqb-true, eq-eqb, leb-true, le-leb}
 use Rattle.pattern.specs.Lists.{sum, occurs, position, keep}
+use Rattle.std.specs.List.{list_any}
 use Rattle.pattern.specs.Counts.{between, unfalling}
 use Rattle.pattern.proofs.Lists.{occurs_append, keep_occurs, sum_append}
 use Rattle.pattern.proofs.Tallies.{
@@ -16,8 +17,7 @@ use Rattle.std.proofs.lemmas.List.{append_assoc, length-append}
 
 -- one of xs passes the test
 unfoldable pub any : (ℕ → Bool) → List ℕ → Bool
-any test [] = false
-any test (x ∷ xs) = test x || any test xs
+any test xs = list_any test xs
 
 pub any_has : (test : ℕ → Bool) (xs : List ℕ) (x : ℕ) → occurs x xs ≡ true → test x ≡ true → any test xs ≡ true
 unfolding any occurs
