@@ -2,19 +2,17 @@
 use Rattle.std.proofs.Common.{◌≡◌, ℕ, zero, suc, ◌+◌, ◌<◌, ◌≤◌, Bool, true, false, cond, ◌&&◌, ◌||◌, eqb, ◌⊎◌, List, [], ◌∷◌, ◌++◌, length, get_or, sym, refl, ap, ◌∙◌, subst, ap₂, inl, inr, arith}
 use Rattle.std.proofs.lemmas.Bool.{cases_Bool, cases_eq, or_cases, or_left, or_right, eq-eqb, eqb-true, and_parts, and_from, true≢false, cond-true, cond-false, both_ways, or_from, ne_eqb}
 use Rattle.std.proofs.lemmas.Bool.Decides.{nat_tests}
+use Rattle.std.proofs.lemmas.List.Concat.{flat_map-append}
+use Rattle.std.proofs.lemmas.List.Elements.{filter-append}
+use Rattle.std.proofs.lemmas.List.Folds.{list_any-append}
+use Rattle.std.proofs.lemmas.Map.Views.{any-filter_same}
 use Rattle.std.proofs.lemmas.List.{length-append, append-nil, append_assoc, get_or_append_left, get_or-append-add}
 use Rattle.pattern.specs.Lists.{upto, keep, first, occurs, each, sum}
 use Rattle.pattern.proofs.Tests.{Vertex, vertex_last}
 
 pub occurs_append : (v : ℕ) (xs ys : List ℕ) → occurs v (xs ++ ys) ≡ (occurs v xs || occurs v ys)
 unfolding occurs
-occurs_append v [] ys = refl
-occurs_append v (x ∷ xs) ys = go (eqb x v) (occurs_append v xs ys)
-  where
-    go : (t : Bool) → occurs v (xs ++ ys) ≡ (occurs v xs || occurs v ys) →
-        (t || occurs v (xs ++ ys)) ≡ ((t || occurs v xs) || occurs v ys)
-    go true same = refl
-    go false same = same
+occurs_append v xs ys = list_any-append (λ x. eqb x v) xs ys
 
 -- of 1 to n occur just the vertices 1 to n
 pub in_upto : (n v : ℕ) → occurs v (upto n) ≡ true → Vertex n v
@@ -46,17 +44,7 @@ upto_has (suc n) v vx = occurs_append v (upto n) (suc n ∷ []) ∙ go (upto_has
 -- of what is kept occurs just what occurred and passes
 pub keep_occurs : (test : ℕ → Bool) (v : ℕ) (xs : List ℕ) → occurs v (keep test xs) ≡ (test v && occurs v xs)
 unfolding keep occurs
-keep_occurs test v [] = go (test v)
-  where
-    go : (t : Bool) → false ≡ (t && false)
-    go true = refl
-    go false = refl
-keep_occurs test v (x ∷ xs) = go (cases_eq x v) (keep_occurs test v xs)
-  where
-    go : (x ≡ v) ⊎ (x ≡ v → ⊥) → occurs v (keep test xs) ≡ (test v && occurs v xs) →
-        occurs v (cond (test x) (x ∷ keep test xs) (keep test xs)) ≡ (test v && (eqb x v || occurs v xs))
-    go (inl same) more = grind (arith, nat_tests)
-    go (inr other) more = grind (arith, nat_tests)
+keep_occurs test v xs = any-filter_same (λ x. eqb x v) test (test v) (λ x e. ap test (eqb-true x v e)) xs
 
 pub in_keep : (n : ℕ) (test : ℕ → Bool) (v : ℕ) → occurs v (keep test (upto n)) ≡ true → (test v ≡ true) × Vertex n v
 in_keep n test v e =
@@ -80,14 +68,7 @@ own_has n o s t v first second vv = keep_has n _ v (or_right _ _ (and_from _ _ f
 
 pub keep_append : (test : ℕ → Bool) (xs ys : List ℕ) → keep test (xs ++ ys) ≡ keep test xs ++ keep test ys
 unfolding keep
-keep_append test [] ys = refl
-keep_append test (x ∷ xs) ys = go (test x) (keep_append test xs ys)
-  where
-    go : (t : Bool) → keep test (xs ++ ys) ≡ keep test xs ++ keep test ys →
-        cond t (x ∷ keep test (xs ++ ys)) (keep test (xs ++ ys))
-        ≡ cond t (x ∷ keep test xs) (keep test xs) ++ keep test ys
-    go true same = ap (◌∷◌ x) same
-    go false same = same
+keep_append test xs ys = filter-append test xs ys
 
 -- going on to n + 1
 pub keep_next : (test : ℕ → Bool) (n : ℕ) →
@@ -179,8 +160,7 @@ get_or_upto (suc n) i d less = go (cases_eq i n) (get_or_upto n i d)
 
 pub each_append : (f : ℕ → List ℕ) (xs ys : List ℕ) → each f (xs ++ ys) ≡ each f xs ++ each f ys
 unfolding each
-each_append f [] ys = refl
-each_append f (x ∷ xs) ys = ap (◌++◌ (f x)) (each_append f xs ys) ∙ sym (append_assoc (f x) (each f xs) (each f ys))
+each_append f xs ys = flat_map-append f xs ys
 
 pub each_next : (f : ℕ → List ℕ) (n : ℕ) → each f (upto (suc n)) ≡ each f (upto n) ++ f (suc n)
 unfolding upto each
