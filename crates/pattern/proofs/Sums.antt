@@ -26,9 +26,4 @@ sum_exchange f (x ∷ xs) ys =
 pub count_is_sum : (test : ℕ → Bool) (xs : List ℕ) → length (keep test xs) ≡ sum (λ x. cond (test x) 1 0) xs
 unfolding sum keep
 count_is_sum test [] = refl
-count_is_sum test (x ∷ xs) = go (test x) (count_is_sum test xs)
-  where
-    go : (t : Bool) → length (keep test xs) ≡ sum (λ x. cond (test x) 1 0) xs →
-        length (cond t (x ∷ keep test xs) (keep test xs)) ≡ cond t 1 0 + sum (λ x. cond (test x) 1 0) xs
-    go true same = omega arith
-    go false same = omega arith
+count_is_sum test (x ∷ xs) = let i = count_is_sum test xs in grind arith

@@ -1,6 +1,6 @@
 -- Sums over lists of vertices, how often a number is one of them, and where it stands.
 use Rattle.std.proofs.Common.{◌≡◌, ℕ, zero, suc, ◌+◌, ◌*◌, ◌<◌, ◌≤◌, min, max, Bool, true, false, cond, eqb, ltb, ◌⊎◌, List, [], ◌∷◌, ◌++◌, length, get_or, sym, refl, ap, ◌∙◌, ap₂, inl, inr, arith}
-use Rattle.std.proofs.lemmas.Bool.{cases_Bool, cases_eq, cases_lt, lt-ltb, le-ltb, false≢true, or_left, or_right, eq-eqb, ne_eqb, cond-true, cond-false}
+use Rattle.std.proofs.lemmas.Bool.{cases_Bool, cases_eq, cases_lt, lt-ltb, le-ltb, false≢true, or_left, or_right, eq-eqb, ne_eqb, cond-true, cond-false, true_from_ne_false, false_from_ne_true}
 use Rattle.std.proofs.lemmas.List.{append_assoc}
 use Rattle.std.proofs.lemmas.Bool.Decides.{nat_tests, eqb_tells}
 use Rattle.pattern.specs.Lists.{upto, keep, occurs, position, each, sum, least, greatest}
@@ -34,23 +34,13 @@ sum_zero f (x ∷ xs) none =
 pub sum_keep : (f : ℕ → ℕ) (test : ℕ → Bool) (xs : List ℕ) → sum f (keep test xs) ≡ sum (λ x. cond (test x) (f x) 0) xs
 unfolding sum keep
 sum_keep f test [] = refl
-sum_keep f test (x ∷ xs) = go (test x) (sum_keep f test xs)
-  where
-    go : (t : Bool) → sum f (keep test xs) ≡ sum (λ x. cond (test x) (f x) 0) xs →
-        sum f (cond t (x ∷ keep test xs) (keep test xs)) ≡ cond t (f x) 0 + sum (λ x. cond (test x) (f x) 0) xs
-    go true i = omega arith
-    go false i = omega arith
+sum_keep f test (x ∷ xs) = let i = sum_keep f test xs in grind arith
 
 pub sum_scale : (test : ℕ → Bool) (k : ℕ) (xs : List ℕ) →
     sum (λ x. cond (test x) k 0) xs ≡ sum (λ x. bit (test x)) xs * k
 unfolding sum
 sum_scale test k [] = omega arith
-sum_scale test k (x ∷ xs) = go (test x) (sum_scale test k xs)
-  where
-    go : (t : Bool) → sum (λ x. cond (test x) k 0) xs ≡ sum (λ x. bit (test x)) xs * k →
-        cond t k 0 + sum (λ x. cond (test x) k 0) xs ≡ (bit t + sum (λ x. bit (test x)) xs) * k
-    go true i = omega arith
-    go false i = omega arith
+sum_scale test k (x ∷ xs) = let i = sum_scale test k xs in grind arith
 
 pub sum_each : (f : ℕ → ℕ) (g : ℕ → List ℕ) (xs : List ℕ) → sum f (each g xs) ≡ sum (λ x. sum f (g x)) xs
 unfolding sum each
@@ -71,19 +61,10 @@ pub sum_at : (n x : ℕ) (f : ℕ → ℕ) → 1 ≤ x → x ≤ n → sum (λ c
 unfolding upto sum
 sum_at zero x f low high = absurd (omega arith)
 sum_at (suc n) x f low high =
-    sum_append (λ c. cond (eqb x c) (f c) 0) (upto n) (suc n ∷ []) ∙ go (cases_eq x (suc n)) (sum_at n x f low)
-  where
-    go : (x ≡ suc n) ⊎ (x ≡ suc n → ⊥) → (x ≤ n → sum (λ c. cond (eqb x c) (f c) 0) (upto n) ≡ f x) →
-        sum (λ c. cond (eqb x c) (f c) 0) (upto n) + (cond (eqb x (suc n)) (f (suc n)) 0 + 0) ≡ f x
-    go (inl e) i =
-        let p = sum_past n x f (omega arith) in
-        let c = cond-true (eqb x (suc n)) (f (suc n)) 0 (eq-eqb x (suc n) e) in
-        let d = ap f e in
-        omega arith
-    go (inr e) i =
-        let c = cond-false (eqb x (suc n)) (f (suc n)) 0 (ne_eqb x (suc n) e) in
-        let d = i (omega arith) in
-        omega arith
+    let a = sum_append (λ c. cond (eqb x c) (f c) 0) (upto n) (suc n ∷ []) in
+    let p = sum_past n x f in
+    let i = sum_at n x f low in
+    grind (arith, nat_tests)
 
 -- a test that only numbers from 1 to n pass, counted over them, is counted at most once for each member
 pub length_by_values : (n : ℕ) (xs : List ℕ) → ((x : ℕ) → occurs x xs ≡ true → Vertex n x) →
@@ -125,18 +106,10 @@ position_right v (x ∷ xs) ys o h =
     grind (arith, nat_tests)
 
 pub occurs_from_count : (v : ℕ) (xs : List ℕ) → 1 ≤ sum (λ y. bit (eqb y v)) xs → occurs v xs ≡ true
-occurs_from_count v xs l = go (cases_Bool (occurs v xs))
-  where
-    go : (occurs v xs ≡ true) ⊎ (occurs v xs ≡ false) → occurs v xs ≡ true
-    go (inl o) = o
-    go (inr o) = absurd (let z = occurs_uncounted v xs o in omega arith)
+occurs_from_count v xs l = true_from_ne_false _ (λ o. omega (arith, occurs_uncounted v xs o))
 
 pub absent_from_count : (v : ℕ) (xs : List ℕ) → sum (λ y. bit (eqb y v)) xs ≡ 0 → occurs v xs ≡ false
-absent_from_count v xs z = go (cases_Bool (occurs v xs))
-  where
-    go : (occurs v xs ≡ true) ⊎ (occurs v xs ≡ false) → occurs v xs ≡ false
-    go (inl o) = absurd (let l = occurs_counted v xs o in omega arith)
-    go (inr o) = o
+absent_from_count v xs z = false_from_ne_true _ (λ o. omega (arith, occurs_counted v xs o))
 
 -- where v stands in a list that holds it once
 pub position_here : (v : ℕ) (xs ys : List ℕ) → sum (λ y. bit (eqb y v)) (xs ++ v ∷ ys) ≤ 1 →
@@ -171,14 +144,7 @@ position_get_or (x ∷ xs) (suc k) d l o =
 pub keep_swap : (s t : ℕ → Bool) (xs : List ℕ) → keep s (keep t xs) ≡ keep t (keep s xs)
 unfolding keep
 keep_swap s t [] = refl
-keep_swap s t (x ∷ xs) = go (s x) (t x) refl refl (keep_swap s t xs)
-  where
-    go : (a b : Bool) → s x ≡ a → t x ≡ b → keep s (keep t xs) ≡ keep t (keep s xs) →
-        keep s (cond b (x ∷ keep t xs) (keep t xs)) ≡ keep t (cond a (x ∷ keep s xs) (keep s xs))
-    go true true e f i = rw (e, f) (ap (◌∷◌ x) i)
-    go true false e f i = rw f i
-    go false true e f i = rw e i
-    go false false e f i = i
+keep_swap s t (x ∷ xs) = let i = keep_swap s t xs in grind arith
 
 -- 1 to n cut at c: those below c, c, and those above it
 pub upto_cut : (n c : ℕ) → suc c ≤ n → upto n ≡ upto c ++ suc c ∷ keep (λ d. ltb (suc c) d) (upto n)
@@ -202,12 +168,7 @@ upto_cut (suc n) c l = go (cases_lt c n) (upto_cut n c)
 pub least_le : (b : ℕ) (f : ℕ → ℕ) (xs : List ℕ) (x : ℕ) → occurs x xs ≡ true → least b f xs ≤ f x
 unfolding least occurs
 least_le b f [] x o = absurd (false≢true o)
-least_le b f (y ∷ xs) x o = go (eqb_tells y x) (least_le b f xs x)
-  where
-    go : ((eqb y x ≡ true) × (y ≡ x)) ⊎ ((eqb y x ≡ false) × (y ≡ x → ⊥)) →
-        (occurs x xs ≡ true → least b f xs ≤ f x) → min (f y) (least b f xs) ≤ f x
-    go (inl (_, s)) i = let e = ap f s in omega arith
-    go (inr (e, _)) i = let h = i (rw e at o) in omega arith
+least_le b f (y ∷ xs) x o = let i = least_le b f xs x in grind (arith, nat_tests)
 
 pub least_ge : (b : ℕ) (f : ℕ → ℕ) (xs : List ℕ) (a : ℕ) → a ≤ b → ((x : ℕ) → occurs x xs ≡ true → a ≤ f x) →
     a ≤ least b f xs
@@ -221,9 +182,4 @@ least_ge b f (y ∷ xs) a l all =
 pub greatest_ge : (f : ℕ → ℕ) (xs : List ℕ) (x : ℕ) → occurs x xs ≡ true → f x ≤ greatest f xs
 unfolding greatest occurs
 greatest_ge f [] x o = absurd (false≢true o)
-greatest_ge f (y ∷ xs) x o = go (eqb_tells y x) (greatest_ge f xs x)
-  where
-    go : ((eqb y x ≡ true) × (y ≡ x)) ⊎ ((eqb y x ≡ false) × (y ≡ x → ⊥)) →
-        (occurs x xs ≡ true → f x ≤ greatest f xs) → f x ≤ max (f y) (greatest f xs)
-    go (inl (_, s)) i = let e = ap f s in omega arith
-    go (inr (e, _)) i = let h = i (rw e at o) in omega arith
+greatest_ge f (y ∷ xs) x o = let i = greatest_ge f xs x in grind (arith, nat_tests)
