@@ -40,15 +40,14 @@ module _ (n : ℕ) (up up' : ℕ → ℕ) (same : (v : ℕ) → 1 ≤ v → v �
   line_from_agrees : (k x : ℕ) → line_from n up k x ≡ line_from n up' k x
   unfolding line_from
   line_from_agrees zero x = refl
-  line_from_agrees (suc k) x = go (cases_Bool (within n x)) (line_from_agrees k (up x))
-    where
-      go : (within n x ≡ true) ⊎ (within n x ≡ false) → line_from n up k (up x) ≡ line_from n up' k (up x) →
-          cond (within n x) (x ∷ line_from n up k (up x)) [] ≡ cond (within n x) (x ∷ line_from n up' k (up' x)) []
-      go (inl w) rest =
-          let h = within_parts n x w in
-          ap (λ l. cond (within n x) (x ∷ l) [])
-          (rest ∙ ap (line_from n up' k) (same x h.named h.fits))
-      go (inr w) rest = cond-false _ _ _ w ∙ sym (cond-false _ _ _ w)
+  line_from_agrees (suc k) x =
+      elim (cases_Bool (within n x)) [
+        | inl w ↦
+            let h = within_parts n x w in
+            ap (λ l. cond (within n x) (x ∷ l) [])
+            (line_from_agrees k (up x) ∙ ap (line_from n up' k) (same x h.named h.fits))
+        | inr w ↦ cond-false _ _ _ w ∙ sym (cond-false _ _ _ w)
+      ]
 
   pub line_agrees : (x : ℕ) → line n up x ≡ line n up' x
   unfolding line

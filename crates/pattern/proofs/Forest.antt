@@ -1,6 +1,6 @@
 -- Forests by a parent function: induction from the parents down, levels, and subtrees made up of the children's.
 use Rattle.std.proofs.Common.{◌≡◌, ℕ, zero, suc, ◌+◌, ◌<◌, ◌≤◌, true, false, cond, eqb, ◌⊎◌, [], ◌∷◌, length, sym, ap, ◌∙◌, inl, inr, arith}
-use Rattle.std.proofs.lemmas.Bool.{cases_Bool, cases_eq, cases_lt, and_left, and_from, or_right, and_parts, eqb-true, ne_eqb, cond-true, both_ways}
+use Rattle.std.proofs.lemmas.Bool.{cases_Bool, cases_eq, cases_lt, and_left, and_from, or_right, and_parts, eqb-true, ne_eqb, cond-true, both_ways, false_from_ne_true}
 use Rattle.std.proofs.lemmas.Bool.Decides.{nat_tests}
 use Rattle.pattern.specs.Lists.{upto, sum, occurs}
 use Rattle.pattern.specs.Patterns.{within}
@@ -60,19 +60,14 @@ module _ (n : ℕ) (up : ℕ → ℕ) (grows : Grows n up) where
 
   -- x lies under v exactly once: as v itself, or by its parent
   pub under_once : (x v : ℕ) → Vertex n x → bit (under n up x v) ≡ bit (eqb x v) + bit (under n up (up x) v)
-  under_once x v h = go (cases_eq x v) (cases_Bool (under n up (up x) v))
-    where
-      go : (x ≡ v) ⊎ (x ≡ v → ⊥) → (under n up (up x) v ≡ true) ⊎ (under n up (up x) v ≡ false) →
-          bit (under n up x v) ≡ bit (eqb x v) + bit (under n up (up x) v)
-      go (inl e) (inl u) =
-          let p = (under_parts (up x) v u).0 in
-          let r = grows.rises x h.named h.fits p.named in
-          let l = under_le n up grows (up x) v u in
-          absurd (omega arith)
-      go (inl e) (inr u) =
-          let s = under_step n up grows x v in let w = within_from n x h in grind (arith, nat_tests)
-      go (inr e) u =
-          let s = under_step n up grows x v in let w = within_from n x h in grind (arith, nat_tests)
+  under_once x v h =
+      let s = under_step n up grows x v in
+      let w = within_from n x h in
+      let past : x ≡ v → under n up (up x) v ≡ false = λ e. false_from_ne_true _ (λ u.
+      let r = grows.rises x h.named h.fits (under_parts (up x) v u).0.named in
+      let l = under_le n up grows (up x) v u in
+      omega arith) in
+      grind (arith, nat_tests)
 
   pub under_parent : (x : ℕ) → Vertex n x → 1 ≤ up x → under n up x (up x) ≡ true
   under_parent x h l =
@@ -127,30 +122,27 @@ module _ (n : ℕ) (up : ℕ → ℕ) (grows : Grows n up) where
   pub level_bound : (x : ℕ) → x ≤ n → level n up x + x ≤ n
   level_bound = from_parents (λ x. level n up x + x ≤ n)
       (let e = level_none in omega arith)
-      (λ x h i. go x h i (cases_lt 0 (up x)))
-    where
-      go : (x : ℕ) → Vertex n x → level n up (up x) + up x ≤ n → (0 < up x) ⊎ (up x ≤ 0) → level n up x + x ≤ n
-      go x h i (inl more) =
-          let e = level_child x h more in
-          let r = grows.rises x h.named h.fits more in
-          omega arith
-      go x h i (inr none) = let e = level_root x h (omega arith) in let l = h.fits in omega arith
+      (λ x h i.
+      elim (cases_lt 0 (up x)) [
+        | inl more ↦
+            let e = level_child x h more in
+            let r = grows.rises x h.named h.fits more in
+            omega arith
+        | inr none ↦ let e = level_root x h (omega arith) in let l = h.fits in omega arith
+      ])
 
   -- an ancestor has a smaller level
   pub under_level : (x : ℕ) → x ≤ n → (v : ℕ) → under n up x v ≡ true → (x ≡ v) ⊎ (level n up v < level n up x)
   under_level = from_parents (λ x. (v : ℕ) → under n up x v ≡ true → (x ≡ v) ⊎ (level n up v < level n up x))
       (λ v u. absurd (both_ways _ (under_none v) u))
-      (λ x h i v u. go x h v u (i v) (cases_Bool (under n up (up x) v)))
-    where
-      go : (x : ℕ) → Vertex n x → (v : ℕ) → under n up x v ≡ true →
-          (under n up (up x) v ≡ true → (up x ≡ v) ⊎ (level n up v < level n up (up x))) →
-          (under n up (up x) v ≡ true) ⊎ (under n up (up x) v ≡ false) → (x ≡ v) ⊎ (level n up v < level n up x)
-      go x h v u i (inl t) =
-          let c = level_child x h (under_parts (up x) v t).0.named in
-          let j = i t in
-          let below : level n up v < level n up x = grind arith in
-          inr below
-      go x h v u i (inr t) = let o = under_once x v h in inl (grind (arith, nat_tests))
+      (λ x h i v u.
+      elim (cases_Bool (under n up (up x) v)) [
+        | inl t ↦
+            let c = level_child x h (under_parts (up x) v t).0.named in
+            let j = i v t in
+            inr (grind arith)
+        | inr t ↦ let o = under_once x v h in inl (grind (arith, nat_tests))
+      ])
 
   pub in_children : (c v : ℕ) → occurs c (children n up v) ≡ true → Vertex n c × (up c ≡ v)
   unfolding children
@@ -179,20 +171,19 @@ module _ (n : ℕ) (up : ℕ → ℕ) (grows : Grows n up) where
   -- what lies under v is v itself or lies under exactly one child of v
   pub under_by_children : (v : ℕ) → Vertex n v → (x : ℕ) →
       sum (λ c. bit (under n up x c)) (children n up v) + bit (eqb x v) ≡ bit (under n up x v)
-  under_by_children v l x = go (cases_lt n x)
-    where
-      go : (n < x) ⊎ (x ≤ n) →
-          sum (λ c. bit (under n up x c)) (children n up v) + bit (eqb x v) ≡ bit (under n up x v)
-      go (inl past) =
-          let a = sum_zero _ (children n up v) (λ c o. ap bit (under_past x c past)) in
-          let b = under_past x v past in
-          let c = ne_eqb x v (λ e. let h = l.fits in omega arith) in
-          grind arith
-      go (inr h) = from_parents
-          (λ x. sum (λ c. bit (under n up x c)) (children n up v) + bit (eqb x v) ≡ bit (under n up x v))
-          (let a = no_child v in let b = under_none v in let c = l.named in grind (arith, nat_tests))
-          (λ x h i. let a = by_child v x h in let b = under_once x v h in omega arith)
-          x h
+  under_by_children v l x =
+      elim (cases_lt n x) [
+        | inl past ↦
+            let a = sum_zero (λ c. bit (under n up x c)) (children n up v) (λ c o. ap bit (under_past x c past)) in
+            let b = under_past x v past in
+            let c = ne_eqb x v (λ e. let h = l.fits in omega arith) in
+            grind arith
+        | inr h ↦ from_parents
+            (λ x. sum (λ c. bit (under n up x c)) (children n up v) + bit (eqb x v) ≡ bit (under n up x v))
+            (let a = no_child v in let b = under_none v in let c = l.named in grind (arith, nat_tests))
+            (λ x h i. let a = by_child v x h in let b = under_once x v h in omega arith)
+            x h
+      ]
 
   -- every vertex lies under exactly one root
   pub under_by_roots : (x : ℕ) → x ≤ n → sum (λ c. bit (under n up x c)) (children n up 0) + bit (eqb x 0) ≡ 1

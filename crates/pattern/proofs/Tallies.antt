@@ -1,4 +1,5 @@
 -- Sums over lists of vertices, how often a number is one of them, and where it stands.
+use Rattle.std.proofs.lemmas.List.Folds.{list_any_at}
 use Rattle.std.proofs.Common.{◌≡◌, ℕ, zero, suc, ◌+◌, ◌*◌, ◌<◌, ◌≤◌, min, max, Bool, true, false, cond, eqb, ltb, ◌⊎◌, List, [], ◌∷◌, ◌++◌, length, get_or, sym, refl, ap, ◌∙◌, ap₂, inl, inr, arith}
 use Rattle.std.proofs.lemmas.Bool.{cases_Bool, cases_eq, cases_lt, lt-ltb, le-ltb, false≢true, or_left, or_right, eq-eqb, ne_eqb, cond-true, cond-false, true_from_ne_false, false_from_ne_true}
 use Rattle.std.proofs.lemmas.List.{append_assoc}
@@ -126,9 +127,7 @@ position_here v xs ys l =
 
 pub occurs_get_or : (xs : List ℕ) (k d : ℕ) → k < length xs → occurs (get_or xs k d) xs ≡ true
 unfolding occurs
-occurs_get_or [] k d l = absurd (omega arith)
-occurs_get_or (x ∷ xs) zero d l = or_left _ _ (eq-eqb x x refl)
-occurs_get_or (x ∷ xs) (suc k) d l = or_right _ _ (occurs_get_or xs k d (omega arith))
+occurs_get_or xs k d l = list_any_at (λ x. eqb x (get_or xs k d)) xs k d l (eq-eqb _ _ refl)
 
 pub position_get_or : (xs : List ℕ) (k d : ℕ) → k < length xs → sum (λ y. bit (eqb y (get_or xs k d))) xs ≤ 1 →
     position (get_or xs k d) xs ≡ suc k
