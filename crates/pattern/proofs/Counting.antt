@@ -1,5 +1,6 @@
 -- The counts by meeting vertices: one identity at each vertex and row. Summed over the vertices it counts the row,
 -- summed over the rows the column.
+use Rattle.std.specs.List.{list_any}
 use Rattle.std.proofs.Common.{◌≡◌, ℕ, ◌+◌, ◌*◌, ◌<◌, ◌≤◌, Bool, true, false, cond, ◌&&◌, ◌||◌, eqb, ltb, ◌⊎◌, List, [], ◌∷◌, length, ℤ, pos, ◌-ℤ◌, sym, refl, ap, ◌∙◌, subst, inl, inr, arith}
 use Rattle.std.proofs.lemmas.Int.{ints}
 use Rattle.std.proofs.lemmas.Bool.{cases_Bool, cases_eq, cases_lt, both_ways, false≢true, or_cases, or_left, or_right, and_parts, and_from, eqb-true, eq-eqb, lt-ltb, ltb-true}
@@ -50,7 +51,6 @@ use Rattle.pattern.proofs.Forest.{
 use Rattle.pattern.proofs.Places.{block}
 use Rattle.pattern.proofs.Meets.{meet_under, meet_of_both, meet_has_both}
 use Rattle.pattern.proofs.Telescope.{
-  any,
   any_has,
   any_tells,
   unfalling_push,
@@ -130,7 +130,7 @@ module _ (p : Pattern) where
 
     -- some stop lies under v just if v is in row u or above u
     pub stops_reach : (v : ℕ) → Vertex p.order v →
-        bit (any (λ x. in_subtree p x v) (stops l u)) ≡ bit (in_row_test v u) + bit (in_subtree p (parent p u) v)
+        bit (list_any (λ x. in_subtree p x v) (stops l u)) ≡ bit (in_row_test v u) + bit (in_subtree p (parent p u) v)
     unfolding in_row_test
     stops_reach v g = go (cases_Bool (in_subtree p u v))
       where
@@ -141,7 +141,7 @@ module _ (p : Pattern) where
         once = under_once n (parent p) grows u v h
 
         go : (in_subtree p u v ≡ true) ⊎ (in_subtree p u v ≡ false) →
-            bit (any (λ x. in_subtree p x v) (stops l u))
+            bit (list_any (λ x. in_subtree p x v) (stops l u))
             ≡ bit (eqb v u || (ltb v u && fill p v u)) + bit (in_subtree p (parent p u) v)
         go (inl above) =
             let a = any_has (λ x. in_subtree p x v) (stops l u) u at_end above in
@@ -155,10 +155,10 @@ module _ (p : Pattern) where
             let b = ap bit off in
             let ne : eqb v u ≡ false = grind (arith, nat_tests) in
             let up : in_subtree p (parent p u) v ≡ false = grind (arith, nat_tests) in
-            let same : any (λ x. in_subtree p x v) (stops l u) ≡ (ltb v u && fill p v u) = same_test _ _ into outof in
+            let same : list_any (λ x. in_subtree p x v) (stops l u) ≡ (ltb v u && fill p v u) = same_test _ _ into outof in
             ap bit same ∙ grind (arith, nat_tests)
           where
-            into : any (λ x. in_subtree p x v) (stops l u) ≡ true → (ltb v u && fill p v u) ≡ true
+            into : list_any (λ x. in_subtree p x v) (stops l u) ≡ true → (ltb v u && fill p v u) ≡ true
             into a =
                 let (x, o, t) = any_tells (λ x. in_subtree p x v) (stops l u) a in
                 found x o t (under_chain n (parent p) grows x u v (stop_under x o) t)
@@ -178,7 +178,7 @@ module _ (p : Pattern) where
                         let less : v < u = omega arith in
                         and_from _ _ (lt-ltb v u less) (touches_fill p v u x less t (from.lower x m).1)
 
-            outof : (ltb v u && fill p v u) ≡ true → any (λ x. in_subtree p x v) (stops l u) ≡ true
+            outof : (ltb v u && fill p v u) ≡ true → list_any (λ x. in_subtree p x v) (stops l u) ≡ true
             outof both =
                 let (less, joins) = and_parts _ _ both in
                 let low = ltb-true v u less in

@@ -1,4 +1,5 @@
 -- The counts of the pass by place: what a row reaches so far, one identity an event, and the counts at the end.
+use Rattle.std.specs.List.{list_any}
 use Rattle.std.proofs.Common.{◌≡◌, ℕ, ◌+◌, ◌≤◌, Bool, true, false, cond, ◌&&◌, ◌||◌, eqb, ◌⊎◌, List, [], ◌∷◌, ◌++◌, sym, refl, ap, ◌∙◌, subst, inl, inr, arith}
 use Rattle.std.proofs.lemmas.Bool.{cases_eq, both_ways, false≢true, or_cases, or_left, or_right, and_parts, and_from, and_left, and_right, eqb-true, eq-eqb, ne_eqb}
 use Rattle.pattern.specs.Lists.{upto, occurs, sum}
@@ -18,7 +19,7 @@ use Rattle.pattern.proofs.Tree.{parents_grow}
 use Rattle.pattern.proofs.Forest.{depth_more, level_depth, depth_counts, under_parts}
 use Rattle.pattern.proofs.Places.{block}
 use Rattle.pattern.proofs.Meets.{meet_of_both}
-use Rattle.pattern.proofs.Telescope.{any, any_has, any_tells, unfalling_push}
+use Rattle.pattern.proofs.Telescope.{any_has, any_tells, unfalling_push}
 use Rattle.pattern.proofs.Counting.{in_row_test, row_tests, stop-cases, in_list, at_end, stops_reach}
 use Rattle.pattern.proofs.Passes.{
   happened_none,
@@ -263,17 +264,17 @@ module _ (p : Pattern) where
       from = row_from_met es q u
 
       has : (y : ℕ) → occurs y (stops (met u es) u) ≡ true → in_subtree p y v ≡ true →
-          any (λ x. in_subtree p x v) (stops (met u es) u) ≡ true
+          list_any (λ x. in_subtree p x v) (stops (met u es) u) ≡ true
       has = any_has (λ x. in_subtree p x v) (stops (met u es) u)
 
-      into : reaches u v es ≡ true → any (λ x. in_subtree p x v) (stops (met u es) u) ≡ true
+      into : reaches u v es ≡ true → list_any (λ x. in_subtree p x v) (stops (met u es) u) ≡ true
       into r = go (reaches_tells u v es r)
         where
-          go : Reached u v es → any (λ x. in_subtree p x v) (stops (met u es) u) ≡ true
+          go : Reached u v es → list_any (λ x. in_subtree p x v) (stops (met u es) u) ≡ true
           go (inl own) = has u (at_end p u h (met u es) from) own
           go (inr (y, k, t)) = has y (in_list p u h (met u es) from y (met_occurs y u es ∙ k)) t
 
-      outof : any (λ x. in_subtree p x v) (stops (met u es) u) ≡ true → reaches u v es ≡ true
+      outof : list_any (λ x. in_subtree p x v) (stops (met u es) u) ≡ true → reaches u v es ≡ true
       outof a =
           let (y, o, t) = any_tells (λ x. in_subtree p x v) (stops (met u es) u) a in
           go y t (stop-cases p u h (met u es) from y o)

@@ -1,6 +1,6 @@
 -- Places: the subtree of a vertex takes an interval of them that ends at its own, and siblings follow one another.
 use Rattle.std.proofs.Common.{◌≡◌, ℕ, zero, suc, ◌+◌, ◌-◌, ◌<◌, ◌≤◌, true, false, cond, eqb, ltb, ◌⊎◌, List, [], ◌∷◌, ◌++◌, length, get_or, sym, refl, ap, ◌∙◌, inl, inr, arith}
-use Rattle.std.proofs.lemmas.Bool.{cases_Bool, and_parts, or_left, or_right, le-ltb, cond-true, eq-eqb}
+use Rattle.std.proofs.lemmas.Bool.{cases_Bool, and_parts, or_left, or_right, le-ltb, cond-true, eq-eqb, true_from_ne_false}
 use Rattle.std.proofs.lemmas.Bool.Decides.{nat_tests}
 use Rattle.std.proofs.lemmas.List.{append_assoc, length-append}
 use Rattle.pattern.specs.Lists.{upto, sum, occurs, each, position, greatest}
@@ -147,32 +147,28 @@ module _ (n : ℕ) (up : ℕ → ℕ) (grows : Grows n up) where
     block_outer : (x : ℕ) → Vertex n x → length r.before < place n up x →
         place n up x ≤ length r.before + size n up v → under n up x v ≡ true
     unfolding own spot
-    block_outer x g low high = go (cases_Bool (under n up x v)) (cases_Bool (occurs x r.before))
-      where
-        go : (under n up x v ≡ true) ⊎ (under n up x v ≡ false) →
-            (occurs x r.before ≡ true) ⊎ (occurs x r.before ≡ false) → under n up x v ≡ true
-        go (inl u) o = u
-        go (inr u) (inl o) =
-            let a = position_left x r.before (own ++ r.behind) o in
-            let b = position_bounds x r.before o in
-            let s = ap (position x) r.cut in
-            let t = spot_vertex x g in
-            absurd (omega arith)
-        go (inr u) (inr o) =
-            let a = parts_count x g in
-            let b = ap bit u in
-            let c = own_counts x in
-            let d = occurs_uncounted x r.before o in
-            let absent = absent_from_count x own (omega arith) in
-            let behind = occurs_from_count x r.behind (omega arith) in
-            let e = position_right x own r.behind absent behind in
-            let f = position_right x r.before (own ++ r.behind) o
-            (occurs_append x own r.behind ∙ or_right _ _ behind) in
-            let i = position_bounds x r.behind behind in
-            let l = length_own in
-            let s = ap (position x) r.cut in
-            let t = spot_vertex x g in
-            absurd (omega arith)
+    block_outer x g low high = true_from_ne_false _ (λ u.
+        let s = ap (position x) r.cut in
+        let t = spot_vertex x g in
+        elim (cases_Bool (occurs x r.before)) [
+          | inl o ↦
+              let a = position_left x r.before (own ++ r.behind) o in
+              let b = position_bounds x r.before o in
+              omega arith
+          | inr o ↦
+              let a = parts_count x g in
+              let b = ap bit u in
+              let c = own_counts x in
+              let d = occurs_uncounted x r.before o in
+              let absent = absent_from_count x own (omega arith) in
+              let behind = occurs_from_count x r.behind (omega arith) in
+              let e = position_right x own r.behind absent behind in
+              let f = position_right x r.before (own ++ r.behind) o
+              (occurs_append x own r.behind ∙ or_right _ _ behind) in
+              let i = position_bounds x r.behind behind in
+              let l = length_own in
+              omega arith
+        ])
 
   pub block : (v : ℕ) → Vertex n v → Block v
   block v h =

@@ -1,6 +1,7 @@
 -- Members with a property that stand together are as many as the neighbours that both have it, and one more.
+use Rattle.std.proofs.lemmas.Bool.Decides.{nat_tests}
 use Rattle.std.proofs.Common.{◌≡◌, ℕ, suc, ◌+◌, ◌-◌, ◌<◌, ◌≤◌, Bool, true, false, cond, ◌&&◌, ◌||◌, eqb, leb, ◌⊎◌, List, [], ◌∷◌, ◌++◌, length, sym, refl, ap, ◌∙◌, subst, inl, inr, arith}
-use Rattle.std.proofs.lemmas.Bool.{cases_Bool, both_ways, false≢true, or_cases, or_left, or_right, or_from, or_parts, and_parts, and_from, eqb-true, eq-eqb, leb-true, le-leb}
+use Rattle.std.proofs.lemmas.Bool.{cases_Bool, both_ways, false≢true, or_cases, or_left, or_right, or_from, or_parts, and_parts, and_from, eqb-true, eq-eqb, leb-true, le-leb, false_from_ne_true}
 use Rattle.pattern.specs.Lists.{sum, occurs, position, keep}
 use Rattle.std.specs.List.{list_any}
 use Rattle.pattern.specs.Counts.{between, unfalling}
@@ -15,33 +16,26 @@ use Rattle.pattern.proofs.Tallies.{
 }
 use Rattle.std.proofs.lemmas.List.{append_assoc, length-append}
 
--- one of xs passes the test
-unfoldable pub any : (ℕ → Bool) → List ℕ → Bool
-any test xs = list_any test xs
-
-pub any_has : (test : ℕ → Bool) (xs : List ℕ) (x : ℕ) → occurs x xs ≡ true → test x ≡ true → any test xs ≡ true
-unfolding any occurs
+pub any_has : (test : ℕ → Bool) (xs : List ℕ) (x : ℕ) → occurs x xs ≡ true → test x ≡ true → list_any test xs ≡ true
+unfolding occurs
 any_has test [] x o t = absurd (false≢true o)
-any_has test (y ∷ xs) x o t = go (or_cases _ _ o) (any_has test xs x)
-  where
-    go : (eqb y x ≡ true) ⊎ (occurs x xs ≡ true) → (occurs x xs ≡ true → test x ≡ true → any test xs ≡ true) →
-        (test y || any test xs) ≡ true
-    go (inl e) i = or_left _ _ (ap test (eqb-true y x e) ∙ t)
-    go (inr m) i = or_right _ _ (i m t)
+any_has test (y ∷ xs) x o t =
+    elim (or_cases _ _ o) [
+      | inl e ↦ or_left _ _ (ap test (eqb-true y x e) ∙ t)
+      | inr m ↦ or_right _ _ (any_has test xs x m t)
+    ]
 
-pub any_tells : (test : ℕ → Bool) (xs : List ℕ) → any test xs ≡ true → (x : ℕ) × (occurs x xs ≡ true) × (test x ≡ true)
-unfolding any occurs
+pub any_tells : (test : ℕ → Bool) (xs : List ℕ) → list_any test xs ≡ true → (x : ℕ) × (occurs x xs ≡ true) × (test x ≡ true)
+unfolding occurs
 any_tells test [] a = absurd (false≢true a)
-any_tells test (y ∷ xs) a = go (or_cases _ _ a) (any_tells test xs)
-  where
-    go : (test y ≡ true) ⊎ (any test xs ≡ true) →
-        (any test xs ≡ true → (x : ℕ) × (occurs x xs ≡ true) × (test x ≡ true)) →
-        (x : ℕ) × (occurs x (y ∷ xs) ≡ true) × (test x ≡ true)
-    go (inl t) i = (y, or_left _ _ (eq-eqb y y refl), t)
-    go (inr m) i = let (x, o, t) = i m in (x, or_right _ _ o, t)
+any_tells test (y ∷ xs) a =
+    elim (or_cases _ _ a) [
+      | inl t ↦ (y, or_left _ _ (eq-eqb y y refl), t)
+      | inr m ↦ let (x, o, t) = any_tells test xs m in (x, or_right _ _ o, t)
+    ]
 
-pub any_none : (test : ℕ → Bool) (xs : List ℕ) → ((x : ℕ) → occurs x xs ≡ true → test x ≡ false) → any test xs ≡ false
-unfolding any occurs
+pub any_none : (test : ℕ → Bool) (xs : List ℕ) → ((x : ℕ) → occurs x xs ≡ true → test x ≡ false) → list_any test xs ≡ false
+unfolding occurs
 any_none test [] none = refl
 any_none test (x ∷ xs) none =
     or_from _ _ (none x (or_left _ _ (eq-eqb x x refl))) (any_none test xs (λ y o. none y (or_right _ _ o)))
@@ -62,12 +56,7 @@ pub unfalling_first : (f : ℕ → ℕ) (x : ℕ) (xs : List ℕ) → unfalling 
     (y : ℕ) → occurs y xs ≡ true → f x ≤ f y
 unfolding unfalling occurs
 unfalling_first f x [] r y o = absurd (false≢true o)
-unfalling_first f x (z ∷ xs) r y o = go (and_parts _ _ r) (or_cases _ _ o) (unfalling_first f z xs)
-  where
-    go : (leb (f x) (f z) ≡ true) × (unfalling f (z ∷ xs) ≡ true) → (eqb z y ≡ true) ⊎ (occurs y xs ≡ true) →
-        (unfalling f (z ∷ xs) ≡ true → (y : ℕ) → occurs y xs ≡ true → f z ≤ f y) → f x ≤ f y
-    go (l, s) (inl e) i = let a = leb-true (f x) (f z) l in let b = ap f (eqb-true z y e) in omega arith
-    go (l, s) (inr m) i = let a = leb-true (f x) (f z) l in let b = i s y m in omega arith
+unfalling_first f x (z ∷ xs) r y o = let i = unfalling_first f z xs in grind (arith, nat_tests)
 
 pub unfalling_push : (f : ℕ → ℕ) (u : ℕ) (xs : List ℕ) → unfalling f xs ≡ true →
     ((x : ℕ) → occurs x xs ≡ true → f x ≤ f u) → unfalling f (xs ++ u ∷ []) ≡ true
@@ -129,13 +118,12 @@ unfolding between occurs
 in_between P f [] all m o = absurd (false≢true o)
 in_between P f (x ∷ []) all m o = absurd (false≢true o)
 in_between P f (x ∷ y ∷ xs) all m o =
-    go (or_cases _ _ o) (in_between P f (y ∷ xs) (λ a b s t. all a b (or_right _ _ s) (or_right _ _ t)) m)
-  where
-    go : (eqb (f x y) m ≡ true) ⊎ (occurs m (between f (y ∷ xs)) ≡ true) →
-        (occurs m (between f (y ∷ xs)) ≡ true → P m) → P m
-    go (inl e) i = subst P (eqb-true (f x y) m e)
-        (all x y (or_left _ _ (eq-eqb x x refl)) (or_right _ _ (or_left _ _ (eq-eqb y y refl))))
-    go (inr t) i = i t
+    elim (or_cases _ _ o) [
+      | inl e ↦
+          subst P (eqb-true (f x y) m e)
+          (all x y (or_left _ _ (eq-eqb x x refl)) (or_right _ _ (or_left _ _ (eq-eqb y y refl))))
+      | inr t ↦ in_between P f (y ∷ xs) (λ a b s t. all a b (or_right _ _ s) (or_right _ _ t)) m t
+    ]
 
 pub length_between : (f : ℕ → ℕ → ℕ) (u : ℕ) (xs : List ℕ) → length (between f (xs ++ u ∷ [])) ≡ length xs
 unfolding between
@@ -172,47 +160,26 @@ module _ (has : ℕ → Bool) (f : ℕ → ℕ) (a b : ℕ) (meet : ℕ → ℕ 
 
   -- past one that has left the interval none has the property
   none_after : (x y : ℕ) (xs : List ℕ) → Together (x ∷ y ∷ xs) → unfalling f (x ∷ y ∷ xs) ≡ true →
-      has x ≡ true → has y ≡ false → any has (y ∷ xs) ≡ false
+      has x ≡ true → has y ≡ false → list_any has (y ∷ xs) ≡ false
   unfolding occurs
-  none_after x y xs t r hx hy = any_none has (y ∷ xs) (λ z o. go z o (cases_Bool (has z)))
-    where
-      go : (z : ℕ) → occurs z (y ∷ xs) ≡ true → (has z ≡ true) ⊎ (has z ≡ false) → has z ≡ false
-      go z o (inr fails) = fails
-      go z o (inl so) =
-          let low = (t.inside x (or_left _ _ (eq-eqb x x refl)) hx).0 in
-          let high = (t.inside z (or_right _ _ o) so).1 in
-          let first : f x ≤ f y = unfalling_first f x (y ∷ xs) r y (or_left _ _ (eq-eqb y y refl)) in
-          let then : f y ≤ f z = from-y (or_cases _ _ o) in
-          let next = or_right _ _ (or_left _ _ (eq-eqb y y refl)) in
-          absurd (both_ways _ hy (t.outside y next (omega arith) (omega arith)))
-        where
-          from-y : (eqb y z ≡ true) ⊎ (occurs z xs ≡ true) → f y ≤ f z
-          from-y (inl e) = let s = ap f (eqb-true y z e) in omega arith
-          from-y (inr m) = unfalling_first f y xs (unfalling_rest f x (y ∷ xs) r) z m
+  none_after x y xs t r hx hy = any_none has (y ∷ xs) (λ z o. false_from_ne_true _ (λ so.
+      let low = (t.inside x (or_left _ _ (eq-eqb x x refl)) hx).0 in
+      let high = (t.inside z (or_right _ _ o) so).1 in
+      let first : f x ≤ f y = unfalling_first f x (y ∷ xs) r y (or_left _ _ (eq-eqb y y refl)) in
+      let then : f y ≤ f z = elim (or_cases (eqb y z) (occurs z xs) o) [
+        | inl e ↦ omega (arith, ap f (eqb-true y z e))
+        | inr m ↦ unfalling_first f y xs (unfalling_rest f x (y ∷ xs) r) z m
+      ] in
+      let next = or_right _ _ (or_left _ _ (eq-eqb y y refl)) in
+      both_ways _ hy (t.outside y next (omega arith) (omega arith))))
 
   pub telescope : (xs : List ℕ) → Together xs → unfalling f xs ≡ true →
-      sum (λ x. bit (has x)) xs ≡ sum (λ m. bit (has m)) (between meet xs) + bit (any has xs)
-  unfolding sum between any
+      sum (λ x. bit (has x)) xs ≡ sum (λ m. bit (has m)) (between meet xs) + bit (list_any has xs)
+  unfolding sum between
   telescope [] t r = refl
   telescope (x ∷ []) t r = grind arith
   telescope (x ∷ y ∷ xs) t r =
-      go (has x) (has y) refl refl (t.both x y (or-left-first x (y ∷ xs)))
-      (telescope (y ∷ xs) (rest x (y ∷ xs) t) (unfalling_rest f x (y ∷ xs) r))
-      (none_after x y xs t r)
-    where
-      or-left-first : (x : ℕ) (xs : List ℕ) → occurs x (x ∷ xs) ≡ true
-      or-left-first x xs = unfold occurs in or_left _ _ (eq-eqb x x refl)
-
-      go : (p q : Bool) → has x ≡ p → has y ≡ q → has (meet x y) ≡ (p && q) →
-          bit q + sum (λ x. bit (has x)) xs ≡ sum (λ m. bit (has m)) (between meet (y ∷ xs)) + bit (q || any has xs) →
-          (has x ≡ true → has y ≡ false → any has (y ∷ xs) ≡ false) →
-          bit p + (bit q + sum (λ x. bit (has x)) xs)
-          ≡ bit (has (meet x y)) + sum (λ m. bit (has m)) (between meet (y ∷ xs)) + bit (p || (q || any has xs))
-      go true true e g m i none = let k = ap bit m in omega arith
-      go true false e g m i none =
-          let k = ap bit m in
-          let n : (has y || any has xs) ≡ false = none e g in
-          let j : any has xs ≡ false = (or_parts (has y) (any has xs) n).1 in
-          let l = ap bit j in
-          omega arith
-      go false q e g m i none = let k = ap bit m in omega arith
+      let m = t.both x y (unfold occurs in or_left _ _ (eq-eqb x x refl)) in
+      let i = telescope (y ∷ xs) (rest x (y ∷ xs) t) (unfalling_rest f x (y ∷ xs) r) in
+      let none = none_after x y xs t r in
+      grind arith
