@@ -3,8 +3,8 @@
 use Rattle.std.proofs.lemmas.Bool.Decides.{nat_tests}
 use Rattle.std.proofs.lemmas.List.{get_or_default}
 use Rattle.std.proofs.lemmas.List.Folds.{list_any_at, Any-from_list_any}
-use Rattle.std.proofs.Common.{◌≡◌, ℕ, zero, suc, ◌<◌, ◌≤◌, true, ◌&&◌, eqb, ◌⊎◌, List, [], ◌∷◌, length, get_or, sym, refl, inl, inr, arith, ap, ◌∙◌}
-use Rattle.std.proofs.lemmas.Bool.{or_cases, or_left, or_right, and_parts, and_from, eq-eqb, eqb-true, true≢false}
+use Rattle.std.proofs.Common.{◌≡◌, ℕ, ◌<◌, ◌≤◌, true, eqb, List, length, get_or, refl, arith, ap, ◌∙◌}
+use Rattle.std.proofs.lemmas.Bool.{or_left, and_from, eq-eqb}
 use Rattle.pattern.specs.Patterns.{Pattern, same_entry, listed, shares}
 use Rattle.pattern.proofs.Joins.{shares_parts, shares_from}
 

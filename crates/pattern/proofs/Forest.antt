@@ -1,6 +1,6 @@
 -- Forests by a parent function: induction from the parents down, levels, and subtrees made up of the children's.
 use Rattle.std.proofs.Common.{◌≡◌, ℕ, zero, suc, ◌+◌, ◌<◌, ◌≤◌, true, false, cond, eqb, ◌⊎◌, [], ◌∷◌, length, sym, ap, ◌∙◌, inl, inr, arith}
-use Rattle.std.proofs.lemmas.Bool.{cases_Bool, cases_eq, cases_lt, and_left, and_from, or_right, and_parts, eqb-true, ne_eqb, cond-true, both_ways, false_from_ne_true}
+use Rattle.std.proofs.lemmas.Bool.{cases_Bool, cases_lt, and_left, and_from, or_right, and_parts, eqb-true, ne_eqb, cond-true, both_ways, false_from_ne_true}
 use Rattle.std.proofs.lemmas.Bool.Decides.{nat_tests}
 use Rattle.pattern.specs.Lists.{upto, sum, occurs}
 use Rattle.pattern.specs.Patterns.{within}
@@ -69,11 +69,14 @@ module _ (n : ℕ) (up : ℕ → ℕ) (grows : Grows n up) where
       omega arith) in
       grind (arith, nat_tests)
 
+  pub parent_vertex : (x : ℕ) → Vertex n x → 1 ≤ up x → Vertex n (up x)
+  parent_vertex x h l = record { named = l; fits = grows.stays x h.named h.fits }
+
   pub under_parent : (x : ℕ) → Vertex n x → 1 ≤ up x → under n up x (up x) ≡ true
   under_parent x h l =
-      let p : Vertex n (up x) = record { named = l; fits = grows.stays x h.named h.fits } in
       under_step n up grows x (up x)
-      ∙ and_from _ _ (within_from n x h) (or_right (eqb x (up x)) _ (under_self n up grows (up x) p))
+      ∙ and_from _ _ (within_from n x h)
+      (or_right (eqb x (up x)) _ (under_self n up grows (up x) (parent_vertex x h l)))
 
   pub depth_none : depth n up 0 ≡ 0
   unfolding depth
@@ -112,10 +115,9 @@ module _ (n : ℕ) (up : ℕ → ℕ) (grows : Grows n up) where
 
   pub level_child : (x : ℕ) → Vertex n x → 1 ≤ up x → level n up x ≡ level n up (up x) + 1
   level_child x h l =
-      let p : Vertex n (up x) = record { named = l; fits = grows.stays x h.named h.fits } in
       let a = level_depth x h in
       let b = depth_more x h in
-      let c = level_depth (up x) p in
+      let c = level_depth (up x) (parent_vertex x h l) in
       omega arith
 
   -- the vertices of a line rise to at most n, so the level is at most what is left to n
@@ -143,6 +145,10 @@ module _ (n : ℕ) (up : ℕ → ℕ) (grows : Grows n up) where
             inr (grind arith)
         | inr t ↦ let o = under_once x v h in inl (grind (arith, nat_tests))
       ])
+
+  pub under_level_le : (x : ℕ) → x ≤ n → (v : ℕ) → under n up x v ≡ true → level n up v ≤ level n up x
+  under_level_le x h v u =
+      elim (under_level x h v u) [ inl e ↦ omega (arith, ap (level n up) e) | inr less ↦ omega arith ]
 
   pub in_children : (c v : ℕ) → occurs c (children n up v) ≡ true → Vertex n c × (up c ≡ v)
   unfolding children

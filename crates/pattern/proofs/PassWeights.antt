@@ -1,5 +1,6 @@
 -- The weights of the pass by place: how far they can go, and that at the end they are the weights of the pattern.
-use Rattle.std.proofs.Common.{◌≡◌, ℕ, ◌+◌, ◌≤◌, Bool, true, false, cond, eqb, ◌⊎◌, List, [], ◌∷◌, ℤ, pos, ◌-ℤ◌, sym, refl, ap, ◌∙◌, inl, inr, arith}
+use Rattle.std.proofs.lemmas.Bool.Decides.{nat_tests}
+use Rattle.std.proofs.Common.{◌≡◌, ℕ, ◌+◌, ◌≤◌, true, cond, eqb, ◌⊎◌, List, [], ◌∷◌, ℤ, pos, ◌-ℤ◌, sym, refl, ap, ◌∙◌, inl, inr, arith}
 use Rattle.std.proofs.lemmas.Int.{ints}
 use Rattle.std.proofs.lemmas.Bool.{cases_eq, or_left, or_right, cond-true, cond-false, eq-eqb, ne_eqb}
 use Rattle.pattern.specs.Lists.{upto, occurs, sum}
@@ -10,7 +11,7 @@ use Rattle.pattern.specs.Fill.{in_subtree, weight}
 use Rattle.pattern.specs.Walks.{size}
 use Rattle.pattern.specs.Counts.{lower_neighbours, sum_ℤ}
 use Rattle.pattern.specs.Passes.{bend_at, one_if, weight_so_far, Passing, Passed}
-use Rattle.pattern.proofs.Tests.{Vertex, eqb_swap}
+use Rattle.pattern.proofs.Tests.{Vertex}
 use Rattle.pattern.proofs.Lists.{in_upto, in_keep}
 use Rattle.pattern.proofs.Sums.{sum_plus}
 use Rattle.pattern.proofs.Tallies.{bit, sum_same, sum_zero, sum_at, length_is_sum}
@@ -32,11 +33,7 @@ use Rattle.pattern.proofs.PassCounts.{reaches, reaches_none, reaches_other, reac
 
 one_is : (v x : ℕ) → one_if v x ≡ pos (bit (eqb x v))
 unfolding one_if
-one_is v x = ap (λ t. cond t (pos 1) (pos 0)) (eqb_swap v x) ∙ go (eqb x v)
-  where
-    go : (t : Bool) → cond t (pos 1) (pos 0) ≡ pos (bit t)
-    go true = refl
-    go false = refl
+one_is v x = grind (arith, nat_tests)
 
 sum_ℤ_same : (f g : ℕ → ℤ) (xs : List ℕ) → ((x : ℕ) → occurs x xs ≡ true → f x ≡ g x) → sum_ℤ f xs ≡ sum_ℤ g xs
 unfolding sum_ℤ occurs

@@ -4,7 +4,7 @@ use Rattle.std.proofs.lemmas.Bool.{cases_eq, cases_lt}
 use Rattle.pattern.specs.Patterns.{Pattern, shares}
 use Rattle.pattern.specs.Elimination.{joined, fill}
 use Rattle.pattern.proofs.Tests.{Vertex}
-use Rattle.pattern.proofs.Joins.{Joins, shares_parts, shares_sym, joined_parts, joined_before, joined_now}
+use Rattle.pattern.proofs.Joins.{shares_parts, shares_sym, joined_parts, joined_before, joined_now}
 use Rattle.pattern.proofs.Joins.{joined_start, joined_stays}
 
 -- a way from a to b whose inner vertices are all under m

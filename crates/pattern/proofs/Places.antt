@@ -1,5 +1,5 @@
 -- Places: the subtree of a vertex takes an interval of them that ends at its own, and siblings follow one another.
-use Rattle.std.proofs.Common.{◌≡◌, ℕ, zero, suc, ◌+◌, ◌-◌, ◌<◌, ◌≤◌, true, false, cond, eqb, ltb, ◌⊎◌, List, [], ◌∷◌, ◌++◌, length, get_or, sym, refl, ap, ◌∙◌, inl, inr, arith}
+use Rattle.std.proofs.Common.{◌≡◌, ℕ, zero, suc, ◌+◌, ◌-◌, ◌<◌, ◌≤◌, true, cond, eqb, ltb, List, [], ◌∷◌, ◌++◌, length, get_or, sym, refl, ap, ◌∙◌, inl, inr, arith}
 use Rattle.std.proofs.lemmas.Bool.{cases_Bool, and_parts, or_left, or_right, le-ltb, cond-true, eq-eqb, true_from_ne_false}
 use Rattle.std.proofs.lemmas.Bool.Decides.{nat_tests}
 use Rattle.std.proofs.lemmas.List.{append_assoc, length-append}
@@ -10,7 +10,7 @@ use Rattle.pattern.proofs.Tests.{Vertex}
 use Rattle.pattern.proofs.Lists.{occurs_append, keep_occurs, in_keep, keep_has, sum_grows, sum_append, keep_none}
 use Rattle.pattern.proofs.Sums.{sum_plus, count_is_sum}
 use Rattle.pattern.proofs.Lines.{under_self, under_le}
-use Rattle.pattern.proofs.Forest.{under_parts, in_children, size_by_children}
+use Rattle.pattern.proofs.Forest.{under_parts, in_children, size_by_children, parent_vertex}
 use Rattle.pattern.proofs.Tallies.{
   bit,
   sum_same,
@@ -209,7 +209,7 @@ module _ (n : ℕ) (up : ℕ → ℕ) (grows : Grows n up) where
   pub place_child : (c : ℕ) → Vertex n c → 1 ≤ up c →
       place n up c + sum (size n up) (above n up (up c) c) + 1 ≡ place n up (up c)
   place_child c h l =
-      spot_parent c h ∙ spot_vertex (up c) (record { named = l; fits = grows.stays c h.named h.fits })
+      spot_parent c h ∙ spot_vertex (up c) (parent_vertex n up grows c h l)
 
   pub place_root : (c : ℕ) → Vertex n c → up c ≡ 0 → place n up c + sum (size n up) (above n up (up c) c) + 1 ≡ n + 1
   place_root c h e = let a = spot_parent c h in let b = ap (spot n up) e in let d = spot_none in omega arith

@@ -9,20 +9,10 @@ use Rattle.pattern.specs.Fill.{in_subtree, Keeps}
 use Rattle.pattern.proofs.Tests.{Vertex, eqb_swap}
 use Rattle.pattern.proofs.Lists.{in_own, own_has, keep_grows, sum_grows}
 use Rattle.pattern.proofs.Sums.{count_is_sum, sum_exchange}
-use Rattle.pattern.proofs.Lines.{Climb, climb_of, under_of, under_self, last_climb, climb_start}
-use Rattle.pattern.proofs.Joins.{
-  Ends,
-  Joins,
-  shares_parts,
-  shares_from,
-  joined_start,
-  joined_parts,
-  joined_before,
-  joined_now,
-  fill_ends,
-}
+use Rattle.pattern.proofs.Lines.{climb_of, under_of, under_self, last_climb, climb_start}
+use Rattle.pattern.proofs.Joins.{Ends, shares_parts, shares_from, joined_start, joined_parts, joined_before, joined_now, fill_ends}
 use Rattle.pattern.proofs.Paths.{Way, edge, hop, join, back, last_step, fill_way, way_fill}
-use Rattle.pattern.proofs.Tree.{parent_is, parents_grow, climb_way, way_climb, parent_joined}
+use Rattle.pattern.proofs.Tree.{parent_is, parents_grow, climb_way, parent_joined, way_lies}
 
 module _ (p : Pattern) where
   -- the smaller v is in row u, and u in the column of v, exactly when the fill joins them
@@ -62,7 +52,7 @@ module _ (p : Pattern) where
         }
         | inr (x, low, w, s) ↦ record {
           at = x;
-          lies = under_of p.order (parent p) (parents_grow p) (way_climb p v x low (back w));
+          lies = way_lies p v x low (back w);
           entry = s;
         }
       ]
@@ -175,7 +165,7 @@ module _ (p q : Pattern) (same : p.order ≡ q.order)
         | inl is ↦
             subst (λ y. in_subtree q x y ≡ true) is
             (under_self q.order (parent q) (parents_grow q) x (subst (λ n. Vertex n x) same (climb_start c)))
-        | inr (low, w) ↦ under_of q.order (parent q) (parents_grow q) (way_climb q v x low (way_grows w))
+        | inr (low, w) ↦ way_lies q v x low (way_grows w)
       ]
 
   pub keeps : Keeps p q

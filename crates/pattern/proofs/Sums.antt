@@ -1,5 +1,5 @@
 -- Sums over lists of vertices: of two functions, of sums in either order, and a count as a sum.
-use Rattle.std.proofs.Common.{◌≡◌, ℕ, ◌+◌, Bool, true, false, cond, List, [], ◌∷◌, length, refl, sym, arith}
+use Rattle.std.proofs.Common.{◌≡◌, ℕ, ◌+◌, Bool, cond, List, [], ◌∷◌, length, refl, sym, arith}
 use Rattle.pattern.specs.Lists.{sum, keep}
 
 pub sum_plus : (f g : ℕ → ℕ) (xs : List ℕ) → sum (λ x. f x + g x) xs ≡ sum f xs + sum g xs

@@ -4,7 +4,7 @@ use Rattle.std.proofs.lemmas.Bool.{cases_eq, and_parts, and_from, both_ways, ltb
 use Rattle.pattern.specs.Patterns.{Pattern}
 use Rattle.pattern.specs.Elimination.{fill, parent}
 use Rattle.pattern.specs.Forest.{Grows}
-use Rattle.pattern.specs.Fill.{below}
+use Rattle.pattern.specs.Fill.{in_subtree, below}
 use Rattle.pattern.proofs.Tests.{Vertex}
 use Rattle.pattern.proofs.Lists.{First, nothing, found, first_tells}
 use Rattle.pattern.proofs.Lines.{Climb, here, step, climb_of, under_of, climb_start}
@@ -106,6 +106,10 @@ module _ (p : Pattern) where
   pub way_climb : (u v : ℕ) → v < u → Way p u u v → Climb p.order (parent p) u v
   way_climb u v less w = way_up u u v less (omega arith) w
 
+  -- so what a way leads to lies above
+  pub way_lies : (u v : ℕ) → v < u → Way p u u v → in_subtree p v u ≡ true
+  way_lies u v less w = under_of p.order (parent p) parents_grow (way_climb u v less w)
+
   pub below_way : (v u : ℕ) → below p v u ≡ true → (v < u) × Way p u u v
   unfolding below
   below_way v u e =
@@ -118,5 +122,4 @@ module _ (p : Pattern) where
   pub way_below : (v u : ℕ) → v < u → Way p u u v → below p v u ≡ true
   unfolding below
   way_below v u less w =
-      and_from _ _ (not_from_false _ (ne_eqb v u (λ e. omega (arith, e, less))))
-      (under_of p.order (parent p) parents_grow (way_climb u v less w))
+      and_from _ _ (not_from_false _ (ne_eqb v u (λ e. omega arith))) (way_lies u v less w)

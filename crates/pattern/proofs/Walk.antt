@@ -1,5 +1,5 @@
 -- The walk: what it holds, and how it is cut at a vertex into what comes before, the subtree's walk, and what follows.
-use Rattle.std.proofs.Common.{◌≡◌, ℕ, zero, suc, ◌<◌, ◌≤◌, true, eqb, ltb, ◌⊎◌, List, [], ◌∷◌, ◌++◌, length, sym, refl, ap, ◌∙◌, inl, inr, arith}
+use Rattle.std.proofs.Common.{◌≡◌, ℕ, zero, suc, ◌≤◌, true, eqb, ltb, List, [], ◌∷◌, ◌++◌, length, sym, refl, ap, ◌∙◌, inl, inr, arith}
 use Rattle.std.proofs.lemmas.Bool.{cases_lt, cond-true, eq-eqb}
 use Rattle.std.proofs.lemmas.List.{append_assoc, append-nil}
 use Rattle.std.proofs.lemmas.Bool.Decides.{nat_tests}
@@ -74,15 +74,13 @@ module _ (n : ℕ) (up : ℕ → ℕ) (grows : Grows n up) where
       let b = sum_each (λ y. bit (eqb y x)) (visit n up n) (children n up 0) in
       let c = sum_same _ (λ c. bit (under n up x c)) (children n up 0) (λ c o.
       let g = (in_children n up grows c 0 o).0 in visit_counts n c g g.fits x) in
-      go (b ∙ c) (cases_lt n x)
-    where
-      go : sum (λ y. bit (eqb y x)) (each (visit n up n) (children n up 0))
-          ≡ sum (λ c. bit (under n up x c)) (children n up 0) → (n < x) ⊎ (x ≤ n) →
-          sum (λ y. bit (eqb y x)) (each (visit n up n) (children n up 0)) ≡ bit (within n x)
-      go e (inl past) =
-          let a = sum_zero _ (children n up 0) (λ c o. ap bit (under_past n up grows x c past)) in
-          grind (arith, nat_tests)
-      go e (inr h) = let a = under_by_roots n up grows x h in grind (arith, nat_tests)
+      elim (cases_lt n x) [
+        | inl past ↦
+            let a = sum_zero (λ c. bit (under n up x c)) (children n up 0)
+            (λ c o. ap bit (under_past n up grows x c past)) in
+            grind (arith, nat_tests)
+        | inr h ↦ let a = under_by_roots n up grows x h in grind (arith, nat_tests)
+      ]
 
   pub in_walk : (x : ℕ) → occurs x (walk n up) ≡ true → Vertex n x
   in_walk x o =
