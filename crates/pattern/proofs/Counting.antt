@@ -3,7 +3,7 @@
 use Rattle.std.specs.List.{list_any}
 use Rattle.std.proofs.Common.{◌≡◌, ℕ, ◌+◌, ◌*◌, ◌<◌, ◌≤◌, Bool, true, false, cond, ◌&&◌, ◌||◌, eqb, ltb, ◌⊎◌, List, [], ◌∷◌, length, ℤ, pos, ◌-ℤ◌, sym, refl, ap, ◌∙◌, subst, inl, inr, arith}
 use Rattle.std.proofs.lemmas.Int.{ints}
-use Rattle.std.proofs.lemmas.Bool.{cases_Bool, cases_eq, cases_lt, both_ways, false≢true, or_cases, or_left, or_right, and_parts, and_from, eqb-true, eq-eqb, lt-ltb, ltb-true}
+use Rattle.std.proofs.lemmas.Bool.{cases_Bool, cases_lt, both_ways, or_cases, or_left, or_right, and_parts, and_from, eq-eqb, lt-ltb, ltb-true}
 use Rattle.std.proofs.lemmas.List.{length-append}
 use Rattle.std.proofs.lemmas.Bool.Decides.{nat_tests}
 use Rattle.pattern.specs.Lists.{upto, occurs, sum}
@@ -30,24 +30,13 @@ use Rattle.pattern.specs.Counts.{
 use Rattle.pattern.proofs.Tests.{Vertex, same_test, eqb_swap}
 use Rattle.pattern.proofs.Lists.{occurs_append, in_upto, in_keep, keep_occurs, sum_append}
 use Rattle.pattern.proofs.Sums.{sum_plus, sum_exchange, count_is_sum}
-use Rattle.pattern.proofs.Lines.{under_self, under_le, under_trans, under_chain, under_of}
+use Rattle.pattern.proofs.Lines.{under_self, under_le, under_trans, under_chain}
 use Rattle.pattern.proofs.Joins.{shares_parts}
 use Rattle.pattern.proofs.Paths.{edge}
-use Rattle.pattern.proofs.Tree.{parents_grow, way_climb}
+use Rattle.pattern.proofs.Tree.{parents_grow, way_lies}
 use Rattle.pattern.proofs.Rows.{fill_touches, touches_fill}
 use Rattle.pattern.proofs.Tallies.{bit, sum_same, sum_zero, sum_keep, sum_at, sum_scale, length_is_sum}
-use Rattle.pattern.proofs.Forest.{
-  depth_more,
-  level_depth,
-  level_none,
-  depth_counts,
-  under_none,
-  under_once,
-  under_parts,
-  under_level,
-  under_by_children,
-  in_children,
-}
+use Rattle.pattern.proofs.Forest.{depth_more, level_depth, level_none, depth_counts, under_none, under_once, under_parts, under_by_children, in_children, under_level_le}
 use Rattle.pattern.proofs.Places.{block}
 use Rattle.pattern.proofs.Meets.{meet_under, meet_of_both, meet_has_both}
 use Rattle.pattern.proofs.Telescope.{
@@ -83,25 +72,19 @@ module _ (p : Pattern) where
   module _ (u : ℕ) (h : Vertex p.order u) (l : List ℕ) (from : RowFrom p u l) where
     pub stop-cases : (x : ℕ) → occurs x (stops l u) ≡ true → (x ≡ u) ⊎ (occurs x l ≡ true)
     unfolding stops occurs
-    stop-cases x o = go (or_cases _ _ (sym (occurs_append x l (u ∷ [])) ∙ o))
-      where
-        here : (eqb u x ≡ true) ⊎ (false ≡ true) → (x ≡ u) ⊎ (occurs x l ≡ true)
-        here (inl e) = inl (sym (eqb-true u x e))
-        here (inr e) = absurd (false≢true e)
-
-        go : (occurs x l ≡ true) ⊎ ((eqb u x || false) ≡ true) → (x ≡ u) ⊎ (occurs x l ≡ true)
-        go (inl m) = inr m
-        go (inr m) = here (or_cases _ _ m)
+    stop-cases x o =
+        elim (or_cases _ _ (sym (occurs_append x l (u ∷ [])) ∙ o)) [
+          | inl m ↦ inr m
+          | inr m ↦ inl (grind (arith, nat_tests))
+        ]
 
     -- each stop is a vertex in the subtree of u
     stop_under : (x : ℕ) → occurs x (stops l u) ≡ true → in_subtree p x u ≡ true
-    stop_under x o = go (stop-cases x o)
-      where
-        go : (x ≡ u) ⊎ (occurs x l ≡ true) → in_subtree p x u ≡ true
-        go (inl e) = subst (λ y. in_subtree p y u ≡ true) (sym e) (under_self p.order (parent p) grows u h)
-        go (inr m) =
-            let (low, s) = from.lower x m in
-            under_of p.order (parent p) grows (way_climb p u x low (edge x s))
+    stop_under x o =
+        elim (stop-cases x o) [
+          | inl e ↦ subst (λ y. in_subtree p y u ≡ true) (sym e) (under_self p.order (parent p) grows u h)
+          | inr m ↦ let (low, s) = from.lower x m in way_lies p u x low (edge x s)
+        ]
 
     stop_vertex : (x : ℕ) → occurs x (stops l u) ≡ true → Vertex p.order x
     stop_vertex x o = (under_parts p.order (parent p) grows x u (stop_under x o)).0
@@ -132,61 +115,47 @@ module _ (p : Pattern) where
     pub stops_reach : (v : ℕ) → Vertex p.order v →
         bit (list_any (λ x. in_subtree p x v) (stops l u)) ≡ bit (in_row_test v u) + bit (in_subtree p (parent p u) v)
     unfolding in_row_test
-    stops_reach v g = go (cases_Bool (in_subtree p u v))
+    stops_reach v g =
+        let o = under_once n (parent p) grows u v h in
+        let s = eqb_swap v u in
+        elim (cases_Bool (in_subtree p u v)) [
+          | inl above ↦
+              let a = any_has (λ x. in_subtree p x v) (stops l u) u at_end above in
+              let le = under_le n (parent p) grows u v above in
+              grind (arith, nat_tests)
+          | inr off ↦ let same = same_test _ _ (into off) outof in grind (arith, nat_tests)
+        ]
       where
         n : ℕ
         n = p.order
 
-        once : bit (in_subtree p u v) ≡ bit (eqb u v) + bit (in_subtree p (parent p u) v)
-        once = under_once n (parent p) grows u v h
-
-        go : (in_subtree p u v ≡ true) ⊎ (in_subtree p u v ≡ false) →
-            bit (list_any (λ x. in_subtree p x v) (stops l u))
-            ≡ bit (eqb v u || (ltb v u && fill p v u)) + bit (in_subtree p (parent p u) v)
-        go (inl above) =
-            let a = any_has (λ x. in_subtree p x v) (stops l u) u at_end above in
-            let le = under_le n (parent p) grows u v above in
-            let o = once in
-            let s = eqb_swap v u in
-            grind (arith, nat_tests)
-        go (inr off) =
-            let o = once in
-            let s = eqb_swap v u in
-            let b = ap bit off in
-            let ne : eqb v u ≡ false = grind (arith, nat_tests) in
-            let up : in_subtree p (parent p u) v ≡ false = grind (arith, nat_tests) in
-            let same : list_any (λ x. in_subtree p x v) (stops l u) ≡ (ltb v u && fill p v u) = same_test _ _ into outof in
-            ap bit same ∙ grind (arith, nat_tests)
-          where
-            into : list_any (λ x. in_subtree p x v) (stops l u) ≡ true → (ltb v u && fill p v u) ≡ true
-            into a =
-                let (x, o, t) = any_tells (λ x. in_subtree p x v) (stops l u) a in
-                found x o t (under_chain n (parent p) grows x u v (stop_under x o) t)
-              where
-                found : (x : ℕ) → occurs x (stops l u) ≡ true → in_subtree p x v ≡ true →
-                    (in_subtree p u v ≡ true) ⊎ (in_subtree p v u ≡ true) → (ltb v u && fill p v u) ≡ true
-                found x o t (inl above) = absurd (both_ways _ off above)
-                found x o t (inr below) = reach (stop-cases x o) (cases_eq v u)
-                  where
-                    reach : (x ≡ u) ⊎ (occurs x l ≡ true) → (v ≡ u) ⊎ (v ≡ u → ⊥) → (ltb v u && fill p v u) ≡ true
-                    reach (inl e) d = absurd (both_ways _ off (subst (λ y. in_subtree p y v ≡ true) e t))
-                    reach (inr m) (inl e) =
-                        let own = under_self n (parent p) grows u h in
-                        absurd (both_ways _ off (subst (λ y. in_subtree p u y ≡ true) (sym e) own))
-                    reach (inr m) (inr d) =
+        into : in_subtree p u v ≡ false → list_any (λ x. in_subtree p x v) (stops l u) ≡ true →
+            (ltb v u && fill p v u) ≡ true
+        into off a =
+            let (x, o, t) = any_tells (λ x. in_subtree p x v) (stops l u) a in
+            elim (under_chain n (parent p) grows x u v (stop_under x o) t) [
+              | inl above ↦ absurd (both_ways _ off above)
+              | inr below ↦
+                  elim (stop-cases x o) [
+                    | inl e ↦ absurd (both_ways _ off (subst (λ y. in_subtree p y v ≡ true) e t))
+                    | inr m ↦
                         let le = under_le n (parent p) grows v u below in
+                        let apart : v ≡ u → ⊥ = λ e.
+                        both_ways _ off (ap (in_subtree p u) e ∙ under_self n (parent p) grows u h) in
                         let less : v < u = omega arith in
                         and_from _ _ (lt-ltb v u less) (touches_fill p v u x less t (from.lower x m).1)
+                  ]
+            ]
 
-            outof : (ltb v u && fill p v u) ≡ true → list_any (λ x. in_subtree p x v) (stops l u) ≡ true
-            outof both =
-                let (less, joins) = and_parts _ _ both in
-                let low = ltb-true v u less in
-                let t = fill_touches p v u low joins in
-                let le = under_le n (parent p) grows t.at v t.lies in
-                let (x, o, lies) = from.covers t.at (omega arith) t.entry in
-                any_has (λ x. in_subtree p x v) (stops l u) x (in_list x o)
-                (under_trans n (parent p) grows x t.at v lies t.lies)
+        outof : (ltb v u && fill p v u) ≡ true → list_any (λ x. in_subtree p x v) (stops l u) ≡ true
+        outof both =
+            let (less, joins) = and_parts _ _ both in
+            let low = ltb-true v u less in
+            let t = fill_touches p v u low joins in
+            let le = under_le n (parent p) grows t.at v t.lies in
+            let (x, o, lies) = from.covers t.at (omega arith) t.entry in
+            any_has (λ x. in_subtree p x v) (stops l u) x (in_list x o)
+            (under_trans n (parent p) grows x t.at v lies t.lies)
 
     -- the identity on which the counts rest: stops under v, bends under v, v in row u, v above u
     pub row_at : (v : ℕ) → Vertex p.order v →
@@ -239,25 +208,16 @@ module _ (p : Pattern) where
         omega arith
 
     meet_level : (x y : ℕ) → occurs x l ≡ true → level_of p (meet_of p x y) ≤ level_of p x
-    meet_level x y o = go (cases_lt 0 (meet_of p x y))
-      where
-        g : Vertex p.order x
-        g = stop_vertex x (in_list x o)
-
-        down : (x ≡ meet_of p x y) ⊎ (level_of p (meet_of p x y) < level_of p x) →
-            level_of p (meet_of p x y) ≤ level_of p x
-        down (inl e) = let f = ap (level_of p) e in omega arith
-        down (inr less) = omega arith
-
-        go : (0 < meet_of p x y) ⊎ (meet_of p x y ≤ 0) → level_of p (meet_of p x y) ≤ level_of p x
-        go (inl some) =
-            down (under_level p.order (parent p) grows x g.fits (meet_of p x y)
-            (meet_has_both p.order (parent p) grows x y g.fits some).0)
-        go (inr none) =
-            let e : meet_of p x y ≡ 0 = omega arith in
-            let f = ap (level_of p) e in
-            let z = level_none p.order (parent p) grows in
-            omega arith
+    meet_level x y o =
+        let fits = (stop_vertex x (in_list x o)).fits in
+        elim (cases_lt 0 (meet_of p x y)) [
+          | inl some ↦
+              under_level_le p.order (parent p) grows x fits (meet_of p x y)
+              (meet_has_both p.order (parent p) grows x y fits some).0
+          | inr none ↦
+              let e : meet_of p x y ≡ 0 = omega arith in
+              omega (arith, ap (level_of p) e, level_none p.order (parent p) grows)
+        ]
 
     pub row_counted : RowCounted p u l
     unfolding stops bends climb
@@ -308,16 +268,15 @@ module _ (n : ℕ) (up : ℕ → ℕ) (grows : Grows n up) where
   pick v y h =
       sum_keep (λ x. bit (eqb y x)) (λ x. under n up x v) (upto n)
       ∙ sum_same _ (λ x. cond (eqb y x) (bit (under n up x v)) 0) (upto n) (λ x o. grind (arith, nat_tests))
-      ∙ go (cases_lt 0 y)
-    where
-      go : (0 < y) ⊎ (y ≤ 0) → sum (λ x. cond (eqb y x) (bit (under n up x v)) 0) (upto n) ≡ bit (under n up y v)
-      go (inl low) = sum_at n y (λ x. bit (under n up x v)) low h
-      go (inr none) =
-          let e : y ≡ 0 = omega arith in
-          let a = sum_zero (λ x. cond (eqb y x) (bit (under n up x v)) 0) (upto n) (λ x o.
-          let g = (in_upto n x o).named in grind (arith, nat_tests)) in
-          let b = ap bit (ap (λ y. under n up y v) e ∙ under_none n up grows v) in
-          omega arith
+      ∙ elim (cases_lt 0 y) [
+        | inl low ↦ sum_at n y (λ x. bit (under n up x v)) low h
+        | inr none ↦
+            let e : y ≡ 0 = omega arith in
+            let a = sum_zero (λ x. cond (eqb y x) (bit (under n up x v)) 0) (upto n) (λ x o.
+            let g = (in_upto n x o).named in grind (arith, nat_tests)) in
+            let b = ap bit (ap (λ y. under n up y v) e ∙ under_none n up grows v) in
+            omega arith
+      ]
 
   -- how often the vertices of a subtree stand in a list
   times_under : (v : ℕ) (xs : List ℕ) → ((y : ℕ) → occurs y xs ≡ true → y ≤ n) →
@@ -353,10 +312,7 @@ module _ (n : ℕ) (up : ℕ → ℕ) (grows : Grows n up) where
       omega arith
     where
       parted : (t e : Bool) (s k x : ℕ) → (s + bit e) * k ≡ bit t * k → x ≡ s * k → cond t k 0 ≡ x + cond e k 0
-      parted true true s k x a b = omega arith
-      parted true false s k x a b = omega arith
-      parted false true s k x a b = omega arith
-      parted false false s k x a b = omega arith
+      parted t e s k x a b = grind arith
 
       at : (x : ℕ) → cond (under n up x v) (f x) 0
           ≡ sum (λ c. cond (under n up x c) (f x) 0) (children n up v) + cond (eqb v x) (f x) 0
