@@ -1,7 +1,7 @@
 -- Two parent functions that agree on the vertices 1 to n make the same trees, with the same walk.
 use Rattle.std.proofs.Common.{◌≡◌, ℕ, zero, suc, ◌-◌, ◌≤◌, Bool, true, cond, eqb, List, [], ◌∷◌, ◌++◌, length, get_or, sym, refl, ap, ◌∙◌, ap₂, inl, inr, arith}
 use mathlib.Core.Path.{fun_ext}
-use Rattle.std.proofs.lemmas.Bool.{cases_Bool, cond-false, eq-eqb, or_left, or_right}
+use Rattle.std.proofs.lemmas.Bool.{cases_Bool, cond-false, or_right}
 use Rattle.pattern.specs.Lists.{upto, keep, occurs, position, each, least, greatest}
 use Rattle.pattern.specs.Patterns.{within}
 use Rattle.pattern.specs.Forest.{
@@ -20,13 +20,13 @@ use Rattle.pattern.specs.Forest.{
 }
 use Rattle.pattern.specs.Walks.{at_place}
 use Rattle.pattern.proofs.Tests.{within_parts}
-use Rattle.pattern.proofs.Lists.{in_upto}
+use Rattle.pattern.proofs.Lists.{in_upto, occurs_here}
 
 keep_agrees : (s t : ℕ → Bool) (xs : List ℕ) → ((x : ℕ) → occurs x xs ≡ true → s x ≡ t x) → keep s xs ≡ keep t xs
 unfolding keep occurs
 keep_agrees s t [] same = refl
 keep_agrees s t (x ∷ xs) same =
-    ap₂ (λ b l. cond b (x ∷ l) l) (same x (or_left _ _ (eq-eqb x x refl)))
+    ap₂ (λ b l. cond b (x ∷ l) l) (same x (occurs_here x xs))
     (keep_agrees s t xs (λ y o. same y (or_right _ _ o)))
 
 module _ (n : ℕ) (up up' : ℕ → ℕ) (same : (v : ℕ) → 1 ≤ v → v ≤ n → up v ≡ up' v) where

@@ -3,12 +3,12 @@
 use Rattle.std.specs.List.{list_any}
 use Rattle.std.proofs.Common.{◌≡◌, ℕ, ◌+◌, ◌*◌, ◌<◌, ◌≤◌, Bool, true, false, cond, ◌&&◌, ◌||◌, eqb, ltb, ◌⊎◌, List, [], ◌∷◌, length, ℤ, pos, ◌-ℤ◌, sym, refl, ap, ◌∙◌, subst, inl, inr, arith}
 use Rattle.std.proofs.lemmas.Int.{ints}
-use Rattle.std.proofs.lemmas.Bool.{cases_Bool, cases_lt, both_ways, or_cases, or_left, or_right, and_parts, and_from, eq-eqb, lt-ltb, ltb-true}
+use Rattle.std.proofs.lemmas.Bool.{cases_Bool, cases_lt, both_ways, or_cases, or_left, or_right, and_parts, and_from, lt-ltb, ltb-true}
 use Rattle.std.proofs.lemmas.List.{length-append}
 use Rattle.std.proofs.lemmas.Bool.Decides.{nat_tests}
 use Rattle.pattern.specs.Lists.{upto, occurs, sum}
 use Rattle.pattern.specs.Patterns.{Pattern, shares}
-use Rattle.pattern.specs.Elimination.{fill, row, col, row_count, col_count, parent}
+use Rattle.pattern.specs.Elimination.{fill, row, col, row_count, col_count, parent, total}
 use Rattle.pattern.specs.Forest.{Grows, under, children, subtree, walk, place}
 use Rattle.pattern.specs.Analysis.{place_of, level_of}
 use Rattle.pattern.specs.Fill.{in_subtree, weight}
@@ -28,7 +28,7 @@ use Rattle.pattern.specs.Counts.{
   ColumnCountsByWeights,
 }
 use Rattle.pattern.proofs.Tests.{Vertex, same_test, eqb_swap}
-use Rattle.pattern.proofs.Lists.{occurs_append, in_upto, in_keep, keep_occurs, sum_append}
+use Rattle.pattern.proofs.Lists.{occurs_append, in_upto, in_keep, keep_occurs, sum_append, occurs_here}
 use Rattle.pattern.proofs.Sums.{sum_plus, sum_exchange, count_is_sum}
 use Rattle.pattern.proofs.Lines.{under_self, under_le, under_trans, under_chain}
 use Rattle.pattern.proofs.Joins.{shares_parts}
@@ -69,6 +69,14 @@ module _ (p : Pattern) where
       count_is_sum (λ u. eqb u v || (ltb v u && fill p v u)) (upto p.order)
       ∙ sum_same _ _ (upto p.order) (λ u o. ap (λ t. bit (t || (ltb v u && fill p v u))) (eqb_swap u v))
 
+  -- counted row by row, the factor's places are as many
+  pub counted_by_rows : total p ≡ sum (row_count p) (upto p.order)
+  unfolding total
+  counted_by_rows =
+      sum_same _ _ (upto p.order) (λ v o. column_tests v)
+      ∙ sum_exchange (λ v u. bit (in_row_test v u)) (upto p.order) (upto p.order)
+      ∙ sum_same _ _ (upto p.order) (λ u o. sym (row_tests u))
+
   module _ (u : ℕ) (h : Vertex p.order u) (l : List ℕ) (from : RowFrom p u l) where
     pub stop-cases : (x : ℕ) → occurs x (stops l u) ≡ true → (x ≡ u) ⊎ (occurs x l ≡ true)
     unfolding stops occurs
@@ -101,7 +109,7 @@ module _ (p : Pattern) where
 
     pub at_end : occurs u (stops l u) ≡ true
     unfolding stops occurs
-    at_end = occurs_append u l (u ∷ []) ∙ or_right (occurs u l) _ (or_left _ _ (eq-eqb u u refl))
+    at_end = occurs_append u l (u ∷ []) ∙ or_right (occurs u l) _ (occurs_here u [])
 
     stops_placed : unfalling (place_of p) (stops l u) ≡ true
     unfolding stops
@@ -330,7 +338,7 @@ unfolding sum_ℤ sum occurs
 sum_ℤ_is w f g h [] each = refl
 sum_ℤ_is w f g h (x ∷ xs) each =
     let i = sum_ℤ_is w f g h xs (λ y o. each y (or_right _ _ o)) in
-    let e = each x (or_left _ _ (eq-eqb x x refl)) in
+    let e = each x (occurs_here x xs) in
     omega (arith, ints)
 
 -- weights by stops and bends

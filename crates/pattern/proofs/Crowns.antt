@@ -254,7 +254,8 @@ module _ (p : Pattern) where
       ((x : ℕ) → x < w → shares p x w ≡ true → T x ≡ w) → AfterRows p w P T
   row_end u w P T in_row adopted =
       record {
-        parents = known;
+        parents = λ v some fits.
+            cut_next u w (parent p v) (P v) in_row.next (in_row.parents v some fits) (due v);
         tops = λ x some fits.
             let c = crown_fits u x some fits in
             in_row.tops x some fits
@@ -273,9 +274,6 @@ module _ (p : Pattern) where
           let low = (of_pattern p u x vx).low (omega (arith, in_row.next)) in
           let top = in_row.tops x vx.named vx.fits in
           ap P (sym crowned) ∙ mark (P (crown_of p u x)) (crown_of p u x) (T x) top low (adopted x less s)
-
-      known : (v : ℕ) → 1 ≤ v → v ≤ p.order → P v ≡ cut w (parent p v)
-      known v some fits = cut_next u w (parent p v) (P v) in_row.next (in_row.parents v some fits) (due v)
 
       same_mark : (v : ℕ) → 1 ≤ v → v ≤ p.order → eqb (P v) w ≡ eqb (parent p v) w
       same_mark v some fits =

@@ -1,6 +1,6 @@
 -- Lists of vertices: what occurs in them, how many pass a test, and the first that passes.
-use Rattle.std.proofs.Common.{◌≡◌, ℕ, zero, suc, ◌+◌, ◌<◌, ◌≤◌, Bool, true, false, cond, ◌&&◌, ◌||◌, eqb, ◌⊎◌, List, [], ◌∷◌, ◌++◌, length, get_or, sym, refl, ap, ◌∙◌, subst, ap₂, inl, inr, arith}
-use Rattle.std.proofs.lemmas.Bool.{cases_Bool, cases_eq, or_cases, or_left, or_right, eq-eqb, eqb-true, and_parts, and_from, cond-true, cond-false, both_ways, or_from, ne_eqb, false≢true}
+use Rattle.std.proofs.Common.{◌≡◌, ℕ, zero, suc, ◌+◌, ◌<◌, ◌≤◌, Bool, true, false, cond, ◌&&◌, ◌||◌, eqb, List, [], ◌∷◌, ◌++◌, length, get_or, sym, refl, ap, ◌∙◌, subst, ap₂, inl, inr, arith}
+use Rattle.std.proofs.lemmas.Bool.{cases_eq, or_cases, or_left, or_right, eq-eqb, eqb-true, and_parts, and_from, cond-true, cond-false, both_ways, or_from, ne_eqb, false≢true, cond_both}
 use Rattle.std.proofs.lemmas.Bool.Decides.{nat_tests}
 use Rattle.std.proofs.lemmas.List.Concat.{flat_map-append}
 use Rattle.std.proofs.lemmas.List.Elements.{filter-append}
@@ -9,6 +9,10 @@ use Rattle.std.proofs.lemmas.Map.Views.{any-filter_same}
 use Rattle.std.proofs.lemmas.List.{length-append, append-nil, append_assoc, get_or_append_left, get_or-append-add}
 use Rattle.pattern.specs.Lists.{upto, keep, first, occurs, each, sum}
 use Rattle.pattern.proofs.Tests.{Vertex, vertex_last}
+
+pub occurs_here : (x : ℕ) (xs : List ℕ) → occurs x (x ∷ xs) ≡ true
+unfolding occurs
+occurs_here x xs = or_left _ _ (eq-eqb x x refl)
 
 pub occurs_append : (v : ℕ) (xs ys : List ℕ) → occurs v (xs ++ ys) ≡ (occurs v xs || occurs v ys)
 unfolding occurs
@@ -73,7 +77,7 @@ pub keep_none : (test : ℕ → Bool) (xs : List ℕ) → ((x : ℕ) → occurs 
 unfolding keep occurs
 keep_none test [] fails = refl
 keep_none test (x ∷ xs) fails =
-    cond-false _ _ _ (fails x (or_left _ _ (eq-eqb x x refl)))
+    cond-false _ _ _ (fails x (occurs_here x xs))
     ∙ keep_none test xs (λ y o. fails y (or_right _ _ o))
 
 -- v, and others above v: v comes first
@@ -181,7 +185,7 @@ first_later : (test : ℕ → Bool) (xs ys : List ℕ) → ((x : ℕ) → occurs
 unfolding first occurs
 first_later test [] ys fail = refl
 first_later test (x ∷ xs) ys fail =
-    cond-false _ _ _ (fail x (or_left _ _ (eq-eqb x x refl)))
+    cond-false _ _ _ (fail x (occurs_here x xs))
     ∙ first_later test xs ys (λ y o. fail y (or_right _ _ o))
 
 pub first_tells : (n : ℕ) (test : ℕ → Bool) → First n test (first test (upto n))
@@ -189,33 +193,22 @@ unfolding upto first
 first_tells zero test = nothing (λ w vx. absurd (omega (arith, vx.named, vx.fits)))
 first_tells (suc n) test = go (first test (upto n)) (first_tells n test) refl
   where
-    last : (test (suc n) ≡ true) ⊎ (test (suc n) ≡ false) → ((w : ℕ) → Vertex n w → test w ≡ false) →
-        First (suc n) test (cond (test (suc n)) (suc n) 0)
-    last (inl passes) none =
-        let here : Vertex (suc n) (suc n) = record { named = omega arith; fits = omega arith } in
-        subst (First (suc n) test) (sym (cond-true _ _ _ passes))
-        (found (suc n) here passes (λ w vw so. only w so (vertex_last vw)))
-      where
-        only : (w : ℕ) → test w ≡ true → (w ≡ suc n) ⊎ Vertex n w → suc n ≤ w
-        only w so (inl same) = omega (arith, same)
-        only w so (inr vw) = absurd (both_ways _ (none w vw) so)
-    last (inr fails) none = subst (First (suc n) test) (sym (cond-false _ _ _ fails))
-        (nothing (λ w vw. fail w (vertex_last vw)))
-      where
-        fail : (w : ℕ) → (w ≡ suc n) ⊎ Vertex n w → test w ≡ false
-        fail w (inl same) = ap test same ∙ fails
-        fail w (inr vw) = none w vw
+    last : ((w : ℕ) → Vertex n w → test w ≡ false) → First (suc n) test (cond (test (suc n)) (suc n) 0)
+    last none =
+        cond_both (test (suc n)) (suc n) 0 (First (suc n) test)
+        (λ passes.
+        found (suc n) (record { named = omega arith; fits = omega arith }) passes
+        (λ w vw so.
+        elim (vertex_last vw) [ inl same ↦ omega arith | inr vw ↦ absurd (both_ways _ (none w vw) so) ]))
+        (λ fails.
+        nothing (λ w vw. elim (vertex_last vw) [ inl same ↦ ap test same ∙ fails | inr vw ↦ none w vw ]))
 
     go : (f : ℕ) → First n test f → first test (upto n) ≡ f → First (suc n) test (first test (upto n ++ suc n ∷ []))
     go f (nothing none) e =
         subst (First (suc n) test) (sym (first_later test (upto n) (suc n ∷ []) (λ x o. none x (in_upto n x o))))
-        (last (cases_Bool (test (suc n))) none)
+        (last none)
     go f (found _ vf passes least) e =
         subst (First (suc n) test)
         (sym (first_kept test (upto n) (suc n ∷ []) (omega (arith, e, vf.named)) ∙ e))
         (found f (record { named = vf.named; fits = omega (arith, vf.fits) }) passes
-        (λ w vw so. below w so (vertex_last vw)))
-      where
-        below : (w : ℕ) → test w ≡ true → (w ≡ suc n) ⊎ Vertex n w → f ≤ w
-        below w so (inl same) = omega (arith, same, vf.fits)
-        below w so (inr vw) = least w vw so
+        (λ w vw so. elim (vertex_last vw) [ inl same ↦ omega (arith, vf.fits) | inr vw ↦ least w vw so ]))

@@ -2,7 +2,7 @@
 use Rattle.std.proofs.lemmas.Bool.Decides.{nat_tests}
 use Rattle.std.proofs.Common.{◌≡◌, ℕ, ◌+◌, ◌≤◌, true, cond, eqb, ◌⊎◌, List, [], ◌∷◌, ℤ, pos, ◌-ℤ◌, sym, refl, ap, ◌∙◌, inl, inr, arith}
 use Rattle.std.proofs.lemmas.Int.{ints}
-use Rattle.std.proofs.lemmas.Bool.{cases_eq, or_left, or_right, cond-true, cond-false, eq-eqb, ne_eqb}
+use Rattle.std.proofs.lemmas.Bool.{cases_eq, or_right, cond-true, cond-false, eq-eqb, ne_eqb}
 use Rattle.pattern.specs.Lists.{upto, occurs, sum}
 use Rattle.pattern.specs.Patterns.{Pattern}
 use Rattle.pattern.specs.Elimination.{col_count, parent}
@@ -12,7 +12,7 @@ use Rattle.pattern.specs.Walks.{size}
 use Rattle.pattern.specs.Counts.{lower_neighbours, sum_ℤ}
 use Rattle.pattern.specs.Passes.{bend_at, one_if, weight_so_far, Passing, Passed}
 use Rattle.pattern.proofs.Tests.{Vertex}
-use Rattle.pattern.proofs.Lists.{in_upto, in_keep}
+use Rattle.pattern.proofs.Lists.{in_upto, in_keep, occurs_here}
 use Rattle.pattern.proofs.Sums.{sum_plus}
 use Rattle.pattern.proofs.Tallies.{bit, sum_same, sum_zero, sum_at, length_is_sum}
 use Rattle.pattern.proofs.Tree.{parents_grow}
@@ -39,7 +39,7 @@ sum_ℤ_same : (f g : ℕ → ℤ) (xs : List ℕ) → ((x : ℕ) → occurs x x
 unfolding sum_ℤ occurs
 sum_ℤ_same f g [] same = refl
 sum_ℤ_same f g (x ∷ xs) same =
-    let a = same x (or_left _ _ (eq-eqb x x refl)) in
+    let a = same x (occurs_here x xs) in
     let i = sum_ℤ_same f g xs (λ y o. same y (or_right _ _ o)) in
     omega (arith, ints)
 

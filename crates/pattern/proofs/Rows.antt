@@ -1,14 +1,12 @@
 -- Rows as subtrees, columns by children, counts by rows, and what more entries change.
-use Rattle.std.proofs.Common.{◌≡◌, ℕ, zero, suc, ◌<◌, ◌≤◌, Bool, true, false, cond, ◌&&◌, ◌||◌, eqb, ltb, ◌⊎◌, List, length, sym, refl, ap, ◌∙◌, subst, inl, inr, arith}
-use mathlib.Core.Path.{fun_ext}
+use Rattle.std.proofs.Common.{◌≡◌, ℕ, zero, suc, ◌<◌, ◌≤◌, Bool, true, false, ◌&&◌, ◌||◌, eqb, ltb, ◌⊎◌, length, sym, refl, ◌∙◌, subst, inl, inr, arith}
 use Rattle.std.proofs.lemmas.Bool.{and_parts, and_from, lt-ltb}
 use Rattle.pattern.specs.Lists.{upto, keep, occurs, sum}
 use Rattle.pattern.specs.Patterns.{Pattern, listed, shares}
 use Rattle.pattern.specs.Elimination.{joined, fill, row, col, row_count, col_count, total, parent}
 use Rattle.pattern.specs.Fill.{in_subtree, Keeps}
-use Rattle.pattern.proofs.Tests.{Vertex, eqb_swap}
+use Rattle.pattern.proofs.Tests.{Vertex}
 use Rattle.pattern.proofs.Lists.{in_own, own_has, keep_grows, sum_grows}
-use Rattle.pattern.proofs.Sums.{count_is_sum, sum_exchange}
 use Rattle.pattern.proofs.Lines.{climb_of, under_of, under_self, last_climb, climb_start}
 use Rattle.pattern.proofs.Joins.{Ends, shares_parts, shares_from, joined_start, joined_parts, joined_before, joined_now, fill_ends}
 use Rattle.pattern.proofs.Paths.{Way, edge, hop, join, back, last_step, fill_way, way_fill}
@@ -91,21 +89,6 @@ module _ (p : Pattern) where
 
   pub sharing_fill : (a b : ℕ) → a < b → shares p a b ≡ true → fill p a b ≡ true
   sharing_fill a b less s = way_fill a b less (edge a s)
-
-  -- counted row by row, the factor's places are as many
-  pub counted_by_rows : total p ≡ sum (row_count p) (upto p.order)
-  unfolding total row_count col_count row col
-  counted_by_rows =
-      ap (λ f. sum f all) (fun_ext (λ v. count_is_sum (λ u. eqb u v || (ltb v u && fill p v u)) all))
-      ∙ sum_exchange (λ v u. cond (eqb u v || (ltb v u && fill p v u)) 1 0) all all
-      ∙ ap (λ f. sum f all)
-      (fun_ext
-      (λ u.
-      ap (λ f. sum f all) (fun_ext (λ v. ap (λ t. cond (t || (ltb v u && fill p v u)) 1 0) (eqb_swap u v)))
-      ∙ sym (count_is_sum (λ v. eqb v u || (ltb v u && fill p v u)) all)))
-    where
-      all : List ℕ
-      all = upto p.order
 
 -- q has the order of p, and shares what p shares
 module _ (p q : Pattern) (same : p.order ≡ q.order)

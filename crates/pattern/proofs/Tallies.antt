@@ -1,11 +1,11 @@
 -- Sums over lists of vertices, how often a number is one of them, and where it stands.
 use Rattle.std.proofs.lemmas.List.Folds.{list_any_at}
-use Rattle.std.proofs.Common.{◌≡◌, ℕ, zero, suc, ◌+◌, ◌*◌, ◌<◌, ◌≤◌, Bool, true, false, cond, eqb, ltb, ◌⊎◌, List, [], ◌∷◌, ◌++◌, length, get_or, sym, refl, ap, ◌∙◌, ap₂, inl, inr, arith}
+use Rattle.std.proofs.Common.{◌≡◌, ℕ, zero, suc, ◌+◌, ◌*◌, ◌<◌, ◌≤◌, Bool, true, false, cond, eqb, ltb, List, [], ◌∷◌, ◌++◌, length, get_or, sym, refl, ap, ◌∙◌, ap₂, inl, inr, arith}
 use Rattle.std.proofs.lemmas.Bool.{cases_lt, lt-ltb, le-ltb, false≢true, or_left, or_right, eq-eqb, ne_eqb, cond-true, cond-false, true_from_ne_false, false_from_ne_true}
 use Rattle.std.proofs.lemmas.List.{append_assoc}
 use Rattle.std.proofs.lemmas.Bool.Decides.{nat_tests}
 use Rattle.pattern.specs.Lists.{upto, keep, occurs, position, each, sum, least, greatest}
-use Rattle.pattern.proofs.Lists.{in_upto, sum_append, keep_append, keep_none}
+use Rattle.pattern.proofs.Lists.{in_upto, sum_append, keep_append, keep_none, occurs_here}
 use Rattle.pattern.proofs.Sums.{sum_exchange}
 use Rattle.pattern.proofs.Tests.{Vertex}
 
@@ -22,14 +22,14 @@ pub sum_same : (f g : ℕ → ℕ) (xs : List ℕ) → ((x : ℕ) → occurs x x
 unfolding sum occurs
 sum_same f g [] same = refl
 sum_same f g (x ∷ xs) same =
-    ap₂ ◌+◌ (same x (or_left _ _ (eq-eqb x x refl))) (sum_same f g xs (λ y o. same y (or_right _ _ o)))
+    ap₂ ◌+◌ (same x (occurs_here x xs)) (sum_same f g xs (λ y o. same y (or_right _ _ o)))
 
 pub sum_zero : (f : ℕ → ℕ) (xs : List ℕ) → ((x : ℕ) → occurs x xs ≡ true → f x ≡ 0) → sum f xs ≡ 0
 unfolding sum occurs
 sum_zero f [] none = refl
 sum_zero f (x ∷ xs) none =
     let i = sum_zero f xs (λ y o. none y (or_right _ _ o)) in
-    let e = none x (or_left _ _ (eq-eqb x x refl)) in
+    let e = none x (occurs_here x xs) in
     omega arith
 
 pub sum_keep : (f : ℕ → ℕ) (test : ℕ → Bool) (xs : List ℕ) → sum f (keep test xs) ≡ sum (λ x. cond (test x) (f x) 0) xs
@@ -149,19 +149,19 @@ keep_swap s t (x ∷ xs) = let i = keep_swap s t xs in grind arith
 pub upto_cut : (n c : ℕ) → suc c ≤ n → upto n ≡ upto c ++ suc c ∷ keep (λ d. ltb (suc c) d) (upto n)
 unfolding upto keep
 upto_cut zero c l = absurd (omega arith)
-upto_cut (suc n) c l = go (cases_lt c n) (upto_cut n c)
-  where
-    go : (c < n) ⊎ (n ≤ c) → (suc c ≤ n → upto n ≡ upto c ++ suc c ∷ keep (λ d. ltb (suc c) d) (upto n)) →
-        upto n ++ suc n ∷ [] ≡ upto c ++ suc c ∷ keep (λ d. ltb (suc c) d) (upto n ++ suc n ∷ [])
-    go (inl m) i = rw (keep_append (λ d. ltb (suc c) d) (upto n) (suc n ∷ []), lt-ltb (suc c) (suc n) (omega arith))
-        (ap (λ l. l ++ suc n ∷ []) (i m) ∙ append_assoc (upto c) _ _)
-    go (inr m) i =
-        let e : c ≡ n = omega arith in
-        rw (
-          e,
-          keep_none (λ d. ltb (suc n) d) (upto n ++ suc n ∷ []) (λ d o.
-              le-ltb (suc n) d (let h = (in_upto (suc n) d (unfold upto in o)).fits in omega arith)),
-        ) refl
+upto_cut (suc n) c l =
+    elim (cases_lt c n) [
+      | inl m ↦
+          rw (keep_append (λ d. ltb (suc c) d) (upto n) (suc n ∷ []), lt-ltb (suc c) (suc n) (omega arith))
+          (ap (λ l. l ++ suc n ∷ []) (upto_cut n c m) ∙ append_assoc (upto c) _ _)
+      | inr m ↦
+          let e : c ≡ n = omega arith in
+          rw (
+            e,
+            keep_none (λ d. ltb (suc n) d) (upto n ++ suc n ∷ []) (λ d o.
+                le-ltb (suc n) d (let h = (in_upto (suc n) d (unfold upto in o)).fits in omega arith)),
+          ) refl
+    ]
 
 -- the least and the greatest value over a list
 pub least_le : (b : ℕ) (f : ℕ → ℕ) (xs : List ℕ) (x : ℕ) → occurs x xs ≡ true → least b f xs ≤ f x
@@ -175,7 +175,7 @@ unfolding least occurs
 least_ge b f [] a l all = l
 least_ge b f (y ∷ xs) a l all =
     let i = least_ge b f xs a l (λ x o. all x (or_right _ _ o)) in
-    let h = all y (or_left _ _ (eq-eqb y y refl)) in
+    let h = all y (occurs_here y xs) in
     omega arith
 
 pub greatest_ge : (f : ℕ → ℕ) (xs : List ℕ) (x : ℕ) → occurs x xs ≡ true → f x ≤ greatest f xs

@@ -1,11 +1,11 @@
 -- Members with a property that stand together are as many as the neighbours that both have it, and one more.
 use Rattle.std.proofs.lemmas.Bool.Decides.{nat_tests}
-use Rattle.std.proofs.Common.{◌≡◌, ℕ, suc, ◌+◌, ◌-◌, ◌<◌, ◌≤◌, Bool, true, false, cond, ◌&&◌, eqb, List, [], ◌∷◌, ◌++◌, length, sym, refl, ap, ◌∙◌, subst, inl, inr, arith}
-use Rattle.std.proofs.lemmas.Bool.{both_ways, false≢true, or_cases, or_left, or_right, or_from, and_parts, and_from, eqb-true, eq-eqb, le-leb, false_from_ne_true}
+use Rattle.std.proofs.Common.{◌≡◌, ℕ, suc, ◌+◌, ◌-◌, ◌<◌, ◌≤◌, Bool, true, false, ◌&&◌, eqb, List, [], ◌∷◌, ◌++◌, length, sym, refl, ap, ◌∙◌, subst, inl, inr, arith}
+use Rattle.std.proofs.lemmas.Bool.{both_ways, false≢true, or_cases, or_left, or_right, or_from, and_parts, and_from, eqb-true, le-leb, false_from_ne_true, cond_both}
 use Rattle.pattern.specs.Lists.{sum, occurs, position, keep}
 use Rattle.std.specs.List.{list_any}
 use Rattle.pattern.specs.Counts.{between, unfalling}
-use Rattle.pattern.proofs.Lists.{occurs_append, keep_occurs, sum_append}
+use Rattle.pattern.proofs.Lists.{occurs_append, keep_occurs, sum_append, occurs_here}
 use Rattle.pattern.proofs.Tallies.{
   bit,
   occurs_counted,
@@ -30,7 +30,7 @@ unfolding occurs
 any_tells test [] a = absurd (false≢true a)
 any_tells test (y ∷ xs) a =
     elim (or_cases _ _ a) [
-      | inl t ↦ (y, or_left _ _ (eq-eqb y y refl), t)
+      | inl t ↦ (y, occurs_here y xs, t)
       | inr m ↦ let (x, o, t) = any_tells test xs m in (x, or_right _ _ o, t)
     ]
 
@@ -38,14 +38,14 @@ pub any_none : (test : ℕ → Bool) (xs : List ℕ) → ((x : ℕ) → occurs x
 unfolding occurs
 any_none test [] none = refl
 any_none test (x ∷ xs) none =
-    or_from _ _ (none x (or_left _ _ (eq-eqb x x refl))) (any_none test xs (λ y o. none y (or_right _ _ o)))
+    or_from _ _ (none x (occurs_here x xs)) (any_none test xs (λ y o. none y (or_right _ _ o)))
 
 -- what does not fall along a list
 pub unfalling_more : (f : ℕ → ℕ) (x : ℕ) (xs : List ℕ) → unfalling f xs ≡ true →
     ((y : ℕ) → occurs y xs ≡ true → f x ≤ f y) → unfalling f (x ∷ xs) ≡ true
 unfolding unfalling occurs
 unfalling_more f x [] r le = refl
-unfalling_more f x (y ∷ xs) r le = and_from _ _ (le-leb (f x) (f y) (le y (or_left _ _ (eq-eqb y y refl)))) r
+unfalling_more f x (y ∷ xs) r le = and_from _ _ (le-leb (f x) (f y) (le y (occurs_here y xs))) r
 
 pub unfalling_rest : (f : ℕ → ℕ) (x : ℕ) (xs : List ℕ) → unfalling f (x ∷ xs) ≡ true → unfalling f xs ≡ true
 unfolding unfalling
@@ -62,7 +62,7 @@ pub unfalling_push : (f : ℕ → ℕ) (u : ℕ) (xs : List ℕ) → unfalling f
     ((x : ℕ) → occurs x xs ≡ true → f x ≤ f u) → unfalling f (xs ++ u ∷ []) ≡ true
 unfolding unfalling occurs
 unfalling_push f u [] r le = refl
-unfalling_push f u (x ∷ []) r le = and_from _ _ (le-leb (f x) (f u) (le x (or_left _ _ (eq-eqb x x refl)))) refl
+unfalling_push f u (x ∷ []) r le = and_from _ _ (le-leb (f x) (f u) (le x (occurs_here x []))) refl
 unfalling_push f u (x ∷ y ∷ xs) r le =
     let (a, b) = and_parts _ _ r in
     and_from _ _ a (unfalling_push f u (y ∷ xs) b (λ z o. le z (or_right _ _ o)))
@@ -84,31 +84,28 @@ pub kept_in_order : (all : List ℕ) → ((x : ℕ) → occurs x all ≡ true �
 unfolding keep unfalling occurs
 kept_in_order all once test before [] e = refl
 kept_in_order all once test before (x ∷ xs) e =
-    go (test x) (kept_in_order all once test (before ++ x ∷ []) xs (e ∙ sym (append_assoc before (x ∷ []) xs)))
+    let i = kept_in_order all once test (before ++ x ∷ []) xs split in
+    cond_both (test x) (x ∷ keep test xs) (keep test xs) (λ ys. unfalling (λ x. position x all) ys ≡ true)
+    (λ _. unfalling_more (λ x. position x all) x (keep test xs) i next)
+    (λ _. i)
   where
+    split : all ≡ (before ++ x ∷ []) ++ xs
+    split = e ∙ sym (append_assoc before (x ∷ []) xs)
+
     held : (y : ℕ) → occurs y (x ∷ xs) ≡ true → occurs y all ≡ true
     held y o = ap (occurs y) e ∙ occurs_append y before (x ∷ xs) ∙ or_right (occurs y before) _ o
-
-    here : occurs x (x ∷ xs) ≡ true
-    here = or_left _ _ (eq-eqb x x refl)
 
     next : (y : ℕ) → occurs y (keep test xs) ≡ true → position x all ≤ position y all
     next y o =
         let m = (and_parts (test y) (occurs y xs) (sym (keep_occurs test y xs) ∙ o)).1 in
         let k : occurs y (x ∷ xs) ≡ true = or_right (eqb x y) _ m in
-        let s = e ∙ sym (append_assoc before (x ∷ []) xs) in
-        let a = position_after all (before ++ x ∷ []) xs s y m (once y (held y k)) in
+        let a = position_after all (before ++ x ∷ []) xs split y m (once y (held y k)) in
         let b = ap (position x) e in
         let c = ap (sum (λ z. bit (eqb z x))) e in
-        let f = once x (held x here) in
+        let f = once x (held x (occurs_here x xs)) in
         let d = position_here x before xs (omega arith) in
         let g = length-append before (x ∷ []) in
         omega arith
-
-    go : (t : Bool) → unfalling (λ x. position x all) (keep test xs) ≡ true →
-        unfalling (λ x. position x all) (cond t (x ∷ keep test xs) (keep test xs)) ≡ true
-    go true i = unfalling_more (λ x. position x all) x (keep test xs) i next
-    go false i = i
 
 -- what holds of all that is made between neighbours
 pub in_between : (P : ℕ → Type 0) (f : ℕ → ℕ → ℕ) (xs : List ℕ) →
@@ -121,7 +118,7 @@ in_between P f (x ∷ y ∷ xs) all m o =
     elim (or_cases _ _ o) [
       | inl e ↦
           subst P (eqb-true (f x y) m e)
-          (all x y (or_left _ _ (eq-eqb x x refl)) (or_right _ _ (or_left _ _ (eq-eqb y y refl))))
+          (all x y (occurs_here x (y ∷ xs)) (or_right _ _ (occurs_here y xs)))
       | inr t ↦ in_between P f (y ∷ xs) (λ a b s t. all a b (or_right _ _ s) (or_right _ _ t)) m t
     ]
 
@@ -137,9 +134,9 @@ pub falls_and_rests : (g : ℕ → ℕ) (f : ℕ → ℕ → ℕ) (u : ℕ) (xs 
     sum (λ k. k) (between (λ x y. g x - g (f x y)) (xs ++ u ∷ [])) + sum g (between f (xs ++ u ∷ [])) ≡ sum g xs
 unfolding between sum occurs
 falls_and_rests g f u [] le = refl
-falls_and_rests g f u (x ∷ []) le = let a = le x u (or_left _ _ (eq-eqb x x refl)) in omega arith
+falls_and_rests g f u (x ∷ []) le = let a = le x u (occurs_here x []) in omega arith
 falls_and_rests g f u (x ∷ y ∷ xs) le =
-    let a = le x y (or_left _ _ (eq-eqb x x refl)) in
+    let a = le x y (occurs_here x (y ∷ xs)) in
     let i = falls_and_rests g f u (y ∷ xs) (λ z w o. le z w (or_right _ _ o)) in
     omega arith
 
@@ -163,14 +160,14 @@ module _ (has : ℕ → Bool) (f : ℕ → ℕ) (a b : ℕ) (meet : ℕ → ℕ 
       has x ≡ true → has y ≡ false → list_any has (y ∷ xs) ≡ false
   unfolding occurs
   none_after x y xs t r hx hy = any_none has (y ∷ xs) (λ z o. false_from_ne_true _ (λ so.
-      let low = (t.inside x (or_left _ _ (eq-eqb x x refl)) hx).0 in
+      let low = (t.inside x (occurs_here x (y ∷ xs)) hx).0 in
       let high = (t.inside z (or_right _ _ o) so).1 in
-      let first : f x ≤ f y = unfalling_first f x (y ∷ xs) r y (or_left _ _ (eq-eqb y y refl)) in
+      let first : f x ≤ f y = unfalling_first f x (y ∷ xs) r y (occurs_here y xs) in
       let then : f y ≤ f z = elim (or_cases (eqb y z) (occurs z xs) o) [
         | inl e ↦ omega (arith, ap f (eqb-true y z e))
         | inr m ↦ unfalling_first f y xs (unfalling_rest f x (y ∷ xs) r) z m
       ] in
-      let next = or_right _ _ (or_left _ _ (eq-eqb y y refl)) in
+      let next = or_right _ _ (occurs_here y xs) in
       both_ways _ hy (t.outside y next (omega arith) (omega arith))))
 
   pub telescope : (xs : List ℕ) → Together xs → unfalling f xs ≡ true →
@@ -179,7 +176,7 @@ module _ (has : ℕ → Bool) (f : ℕ → ℕ) (a b : ℕ) (meet : ℕ → ℕ 
   telescope [] t r = refl
   telescope (x ∷ []) t r = grind arith
   telescope (x ∷ y ∷ xs) t r =
-      let m = t.both x y (unfold occurs in or_left _ _ (eq-eqb x x refl)) in
+      let m = t.both x y (occurs_here x (y ∷ xs)) in
       let i = telescope (y ∷ xs) (rest x (y ∷ xs) t) (unfalling_rest f x (y ∷ xs) r) in
       let none = none_after x y xs t r in
       grind arith
