@@ -1,5 +1,4 @@
 -- The tree grown row by row: the laws of crowns, which vertices a row gives their parent, and the tables row by row.
-use Rattle.pattern.proofs.Forest.{parent_vertex}
 use Rattle.std.proofs.Common.{◌≡◌, ℕ, zero, suc, ◌+◌, ◌<◌, ◌≤◌, true, false, cond, not, ◌&&◌, eqb, ◌⊎◌, sym, refl, ap, ◌∙◌, subst, inl, inr, arith}
 use Rattle.std.proofs.lemmas.Bool.{cases_eq, cases_lt, cond-true, cond-false, eq-eqb, ne_eqb, eqb-true}
 use Rattle.std.proofs.lemmas.Bool.Decides.{nat_tests}
@@ -8,6 +7,7 @@ use Rattle.pattern.specs.Elimination.{parent}
 use Rattle.pattern.specs.Forest.{Grows, under}
 use Rattle.pattern.specs.Fill.{in_subtree}
 use Rattle.pattern.specs.Crowns.{crown, crown_of, cut, AfterRows, InRow, Adopts}
+use Rattle.pattern.proofs.Forest.{parent_vertex}
 use Rattle.pattern.proofs.Tests.{Vertex, same_test}
 use Rattle.pattern.proofs.Lines.{
   Climb,

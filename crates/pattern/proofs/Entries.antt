@@ -1,10 +1,10 @@
 -- Entries by position: in a pattern whose pairs name the lower vertex first, the lower neighbours of a vertex are just
 -- the first vertices of the pairs that end in it.
+use Rattle.std.proofs.Common.{◌≡◌, ℕ, ◌<◌, ◌≤◌, true, eqb, List, length, get_or, refl, arith, ap, ◌∙◌}
+use Rattle.std.proofs.lemmas.Bool.{or_left, and_from, eq-eqb}
 use Rattle.std.proofs.lemmas.Bool.Decides.{nat_tests}
 use Rattle.std.proofs.lemmas.List.{get_or_default}
 use Rattle.std.proofs.lemmas.List.Folds.{list_any_at, Any-from_list_any}
-use Rattle.std.proofs.Common.{◌≡◌, ℕ, ◌<◌, ◌≤◌, true, eqb, List, length, get_or, refl, arith, ap, ◌∙◌}
-use Rattle.std.proofs.lemmas.Bool.{or_left, and_from, eq-eqb}
 use Rattle.pattern.specs.Patterns.{Pattern, same_entry, listed, shares}
 use Rattle.pattern.proofs.Joins.{shares_parts, shares_from}
 

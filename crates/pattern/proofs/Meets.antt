@@ -1,7 +1,7 @@
 -- The meeting vertex of two vertices: it lies under just those vertices that both lie under.
-use Rattle.std.proofs.lemmas.Bool.Decides.{nat_tests}
 use Rattle.std.proofs.Common.{◌≡◌, ℕ, ◌≤◌, true, false, cond, ◌&&◌, sym, ap, ◌∙◌, subst, inl, inr, arith}
 use Rattle.std.proofs.lemmas.Bool.{cases_Bool, cases_lt, both_ways, and_parts, and_from, cond-true, cond-false, false_from_ne_true}
+use Rattle.std.proofs.lemmas.Bool.Decides.{nat_tests}
 use Rattle.pattern.specs.Lists.{first}
 use Rattle.pattern.specs.Forest.{Grows, under}
 use Rattle.pattern.specs.Meets.{meet, Lowest}

@@ -1,9 +1,9 @@
 -- Sums over lists of vertices, how often a number is one of them, and where it stands.
-use Rattle.std.proofs.lemmas.List.Folds.{list_any_at}
 use Rattle.std.proofs.Common.{◌≡◌, ℕ, zero, suc, ◌+◌, ◌*◌, ◌<◌, ◌≤◌, Bool, true, false, cond, eqb, ltb, List, [], ◌∷◌, ◌++◌, length, get_or, sym, refl, ap, ◌∙◌, ap₂, inl, inr, arith}
 use Rattle.std.proofs.lemmas.Bool.{cases_lt, lt-ltb, le-ltb, false≢true, or_left, or_right, eq-eqb, ne_eqb, cond-true, cond-false, true_from_ne_false, false_from_ne_true}
-use Rattle.std.proofs.lemmas.List.{append_assoc}
 use Rattle.std.proofs.lemmas.Bool.Decides.{nat_tests}
+use Rattle.std.proofs.lemmas.List.{append_assoc}
+use Rattle.std.proofs.lemmas.List.Folds.{list_any_at}
 use Rattle.pattern.specs.Lists.{upto, keep, occurs, position, each, sum, least, greatest}
 use Rattle.pattern.proofs.Lists.{in_upto, sum_append, keep_append, keep_none, occurs_here}
 use Rattle.pattern.proofs.Sums.{sum_exchange}

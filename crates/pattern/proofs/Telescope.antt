@@ -1,9 +1,10 @@
 -- Members with a property that stand together are as many as the neighbours that both have it, and one more.
-use Rattle.std.proofs.lemmas.Bool.Decides.{nat_tests}
 use Rattle.std.proofs.Common.{◌≡◌, ℕ, suc, ◌+◌, ◌-◌, ◌<◌, ◌≤◌, Bool, true, false, ◌&&◌, eqb, List, [], ◌∷◌, ◌++◌, length, sym, refl, ap, ◌∙◌, subst, inl, inr, arith}
-use Rattle.std.proofs.lemmas.Bool.{both_ways, false≢true, or_cases, or_left, or_right, or_from, and_parts, and_from, eqb-true, le-leb, false_from_ne_true, cond_both}
-use Rattle.pattern.specs.Lists.{sum, occurs, position, keep}
 use Rattle.std.specs.List.{list_any}
+use Rattle.std.proofs.lemmas.Bool.{both_ways, false≢true, or_cases, or_left, or_right, or_from, and_parts, and_from, eqb-true, le-leb, false_from_ne_true, cond_both}
+use Rattle.std.proofs.lemmas.Bool.Decides.{nat_tests}
+use Rattle.std.proofs.lemmas.List.{append_assoc, length-append}
+use Rattle.pattern.specs.Lists.{sum, occurs, position, keep}
 use Rattle.pattern.specs.Counts.{between, unfalling}
 use Rattle.pattern.proofs.Lists.{occurs_append, keep_occurs, sum_append, occurs_here}
 use Rattle.pattern.proofs.Tallies.{
@@ -14,7 +15,6 @@ use Rattle.pattern.proofs.Tallies.{
   position_bounds,
   position_here,
 }
-use Rattle.std.proofs.lemmas.List.{append_assoc, length-append}
 
 pub any_has : (test : ℕ → Bool) (xs : List ℕ) (x : ℕ) → occurs x xs ≡ true → test x ≡ true → list_any test xs ≡ true
 unfolding occurs
@@ -25,7 +25,8 @@ any_has test (y ∷ xs) x o t =
       | inr m ↦ or_right _ _ (any_has test xs x m t)
     ]
 
-pub any_tells : (test : ℕ → Bool) (xs : List ℕ) → list_any test xs ≡ true → (x : ℕ) × (occurs x xs ≡ true) × (test x ≡ true)
+pub any_tells : (test : ℕ → Bool) (xs : List ℕ) → list_any test xs ≡ true →
+    (x : ℕ) × (occurs x xs ≡ true) × (test x ≡ true)
 unfolding occurs
 any_tells test [] a = absurd (false≢true a)
 any_tells test (y ∷ xs) a =
@@ -34,7 +35,8 @@ any_tells test (y ∷ xs) a =
       | inr m ↦ let (x, o, t) = any_tells test xs m in (x, or_right _ _ o, t)
     ]
 
-pub any_none : (test : ℕ → Bool) (xs : List ℕ) → ((x : ℕ) → occurs x xs ≡ true → test x ≡ false) → list_any test xs ≡ false
+pub any_none : (test : ℕ → Bool) (xs : List ℕ) → ((x : ℕ) → occurs x xs ≡ true → test x ≡ false) →
+    list_any test xs ≡ false
 unfolding occurs
 any_none test [] none = refl
 any_none test (x ∷ xs) none =

@@ -1,6 +1,7 @@
 -- The tops of the pass by place: at first each vertex itself, at the end its root, in between the meeting vertices.
 use Rattle.std.proofs.Common.{◌≡◌, ℕ, suc, ◌-◌, ◌<◌, ◌≤◌, true, false, cond, not, ◌&&◌, ◌||◌, eqb, ltb, ◌⊎◌, sym, ap, ◌∙◌, inl, inr, arith}
 use Rattle.std.proofs.lemmas.Bool.{cases_eq, cases_lt, both_ways, and_left, and_from, or_left, or_right, or_from, cond-true, cond-false, lt-ltb, le-ltb, eq-eqb, ne_eqb, false_from_ne_true}
+use Rattle.std.proofs.lemmas.Bool.Decides.{nat_tests}
 use Rattle.pattern.specs.Lists.{first}
 use Rattle.pattern.specs.Forest.{Grows, under, place}
 use Rattle.pattern.specs.Meets.{meet}
@@ -10,7 +11,6 @@ use Rattle.pattern.proofs.Lines.{under_self}
 use Rattle.pattern.proofs.Forest.{from_parents, line_more, under_none, under_once, under_parent, parent_vertex}
 use Rattle.pattern.proofs.Places.{place_bounds, place_apart, place_rises, block}
 use Rattle.pattern.proofs.Tallies.{bit}
-use Rattle.std.proofs.lemmas.Bool.Decides.{nat_tests}
 use Rattle.pattern.proofs.Meets.{meet_here, meet_higher}
 
 module _ (n : ℕ) (up : ℕ → ℕ) (grows : Grows n up) where

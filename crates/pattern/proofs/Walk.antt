@@ -1,8 +1,8 @@
 -- The walk: what it holds, and how it is cut at a vertex into what comes before, the subtree's walk, and what follows.
 use Rattle.std.proofs.Common.{◌≡◌, ℕ, zero, suc, ◌≤◌, true, eqb, ltb, List, [], ◌∷◌, ◌++◌, length, sym, refl, ap, ◌∙◌, inl, inr, arith}
 use Rattle.std.proofs.lemmas.Bool.{cases_lt, cond-true, eq-eqb}
-use Rattle.std.proofs.lemmas.List.{append_assoc, append-nil}
 use Rattle.std.proofs.lemmas.Bool.Decides.{nat_tests}
+use Rattle.std.proofs.lemmas.List.{append_assoc, append-nil}
 use Rattle.pattern.specs.Lists.{upto, keep, sum, occurs, each}
 use Rattle.pattern.specs.Patterns.{within}
 use Rattle.pattern.specs.Forest.{Grows, under, children, visit, walk}
