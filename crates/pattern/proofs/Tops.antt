@@ -58,41 +58,43 @@ module _ (n : ℕ) (up : ℕ → ℕ) (grows : Grows n up) where
       ≡ cond (eqb (top_after n up t x) z && not (eqb (up z) 0)) (up z) (top_after n up t x)
   top_step t z g at = from_parents n up grows (λ x. 1 ≤ x → top_after n up (suc t) x ≡ next (top_after n up t x))
       (λ l. absurd (omega arith))
-      (λ x h i l. go x h i (cases_lt t (place n up x)) (cases_lt 0 (up x)))
+      (λ x h i l.
+      elim (cases_lt 0 (up x)) [
+        | inr none ↦
+            let e : up x ≡ 0 = omega arith in
+            top_root (suc t) x h e ∙ root_stays x e ∙ ap next (sym (top_root t x h e))
+        | inl more ↦
+            elim (cases_lt t (place n up x)) [
+              | inl later ↦ now x h later more
+              | inr passed ↦
+                  top_higher (suc t) x h (omega arith) more ∙ i more ∙ ap next (sym (top_higher t x h passed more))
+            ]
+      ])
     where
       next : ℕ → ℕ
       next y = cond (eqb y z && not (eqb (up z) 0)) (up z) y
 
-      other : (x : ℕ) → (x ≡ z → ⊥) → next x ≡ x
-      other x d = cond-false _ _ _ (and_left _ _ (ne_eqb x z d))
-
       root_stays : (x : ℕ) → up x ≡ 0 → x ≡ next x
       root_stays x e = grind (arith, nat_tests)
 
-      go : (x : ℕ) → Vertex n x → (1 ≤ up x → top_after n up (suc t) (up x) ≡ next (top_after n up t (up x))) →
-          (t < place n up x) ⊎ (place n up x ≤ t) → (0 < up x) ⊎ (up x ≤ 0) →
+      now : (x : ℕ) → Vertex n x → t < place n up x → 1 ≤ up x →
           top_after n up (suc t) x ≡ next (top_after n up t x)
-      go x h i (inr passed) (inl more) =
-          top_higher (suc t) x h (omega arith) more ∙ i more ∙ ap next (sym (top_higher t x h passed more))
-      go x h i p (inr none) =
-          let e : up x ≡ 0 = omega arith in
-          let stays : x ≡ next x = root_stays x e in
-          top_root (suc t) x h e ∙ stays ∙ ap next (sym (top_root t x h e))
-      go x h i (inl later) (inl more) = now (cases_eq x z)
-        where
-          now : (x ≡ z) ⊎ (x ≡ z → ⊥) → top_after n up (suc t) x ≡ next (top_after n up t x)
-          now (inl s) =
-              let e = ap (place n up) s in
-              let r = place_rises n up grows x h more in
-              top_higher (suc t) x h (omega arith) more
-              ∙ top_here (suc t) (up x) (parent_vertex n up grows x h more) (omega arith)
-              ∙ ap up s
-              ∙ sym (ap next (top_here t x h later)
-              ∙ cond-true _ _ _
-              (and_from _ _ (eq-eqb x z s) (ap not (ne_eqb (up z) 0 (λ e. let f = ap up s in omega arith)))))
-          now (inr d) =
-              let ne : place n up x ≡ suc t → ⊥ = λ e. d (place_apart n up grows x z h g (e ∙ sym at)) in
-              top_here (suc t) x h (omega arith) ∙ sym (ap next (top_here t x h later) ∙ other x d)
+      now x h later more =
+          elim (cases_eq x z) [
+            | inl s ↦
+                let e = ap (place n up) s in
+                let r = place_rises n up grows x h more in
+                top_higher (suc t) x h (omega arith) more
+                ∙ top_here (suc t) (up x) (parent_vertex n up grows x h more) (omega arith)
+                ∙ ap up s
+                ∙ sym (ap next (top_here t x h later)
+                ∙ cond-true _ _ _
+                (and_from _ _ (eq-eqb x z s) (ap not (ne_eqb (up z) 0 (λ e. omega (arith, ap up s))))))
+            | inr d ↦
+                let ne : place n up x ≡ suc t → ⊥ = λ e. d (place_apart n up grows x z h g (e ∙ sym at)) in
+                top_here (suc t) x h (omega arith)
+                ∙ sym (ap next (top_here t x h later) ∙ cond-false _ _ _ (and_left _ _ (ne_eqb x z d)))
+          ]
 
   -- where two vertices with a common ancestor meet, the earlier has its top when the later is about to be passed
   pub top_meets : (y : ℕ) → Vertex n y → (a : ℕ) → under n up y a ≡ true → (x : ℕ) → x ≤ n →
@@ -100,55 +102,46 @@ module _ (n : ℕ) (up : ℕ → ℕ) (grows : Grows n up) where
   top_meets y g a ya = from_parents n up grows
       (λ x. under n up x a ≡ true → place n up x ≤ place n up y → top_after n up (place n up y - 1) x ≡ meet n up x y)
       (λ u l. absurd (both_ways _ (under_none n up grows a) u))
-      (λ x h i u l. go x h i u l (cases_eq x y) (cases_lt 0 (up x)))
+      (λ x h i u l.
+      elim (cases_eq x y) [
+        | inl s ↦
+            let b = place_bounds n up grows x h in
+            let e = ap (place n up) s in
+            top_here (place n up y - 1) x h (omega arith)
+            ∙ sym (meet_here n up grows x y h (ap (λ z. under n up z x) (sym s) ∙ under_self n up grows x h))
+        | inr s ↦
+            elim (cases_lt 0 (up x)) [
+              | inr none ↦
+                  let e : up x ≡ 0 = omega arith in
+                  let c = under_once n up grows x a h in
+                  let f = ap bit (ap (λ z. under n up z a) e ∙ under_none n up grows a) in
+                  let k = ap bit u in
+                  let same : x ≡ a = grind (arith, nat_tests) in
+                  top_root (place n up y - 1) x h e
+                  ∙ sym (meet_here n up grows x y h (ap (under n up y) same ∙ ya))
+              | inl more ↦
+                  let q = parent_vertex n up grows x h more in
+                  let apart : place n up x ≡ place n up y → ⊥ = λ e. s (place_apart n up grows x y h g e) in
+                  let off = not_under x h (omega arith) in
+                  let c = under_once n up grows x a h in
+                  let ahead : under n up (up x) a ≡ true = grind (arith, nat_tests) in
+                  top_higher (place n up y - 1) x h (omega arith) more
+                  ∙ elim (cases_lt (place n up y) (place n up (up x))) [
+                    | inl past ↦
+                        let c = block n up grows (up x) q in
+                        let d = c.inner x (under_parent n up grows x h more) in
+                        let e = c.last in
+                        top_here (place n up y - 1) (up x) q (omega arith)
+                        ∙ sym (meet_here n up grows (up x) y q (c.outer y g (omega arith) (omega arith)))
+                    | inr before ↦ i ahead before
+                  ]
+                  ∙ sym (meet_higher n up grows x y h off)
+            ]
+      ])
     where
-      go : (x : ℕ) → Vertex n x →
-          (under n up (up x) a ≡ true → place n up (up x) ≤ place n up y →
-          top_after n up (place n up y - 1) (up x) ≡ meet n up (up x) y) →
-          under n up x a ≡ true → place n up x ≤ place n up y →
-          (x ≡ y) ⊎ (x ≡ y → ⊥) → (0 < up x) ⊎ (up x ≤ 0) → top_after n up (place n up y - 1) x ≡ meet n up x y
-      go x h i u l (inl s) d =
-          let b = place_bounds n up grows x h in
-          let e = ap (place n up) s in
-          top_here (place n up y - 1) x h (omega arith)
-          ∙ sym (meet_here n up grows x y h (ap (λ z. under n up z x) (sym s) ∙ under_self n up grows x h))
-      go x h i u l (inr s) (inr none) =
-          let e : up x ≡ 0 = omega arith in
-          let c = under_once n up grows x a h in
-          let f = ap bit (ap (λ z. under n up z a) e ∙ under_none n up grows a) in
-          let k = ap bit u in
-          let same : x ≡ a = grind (arith, nat_tests) in
-          top_root (place n up y - 1) x h e
-          ∙ sym (meet_here n up grows x y h (ap (under n up y) same ∙ ya))
-      go x h i u l (inr s) (inl more) =
-          top_higher (place n up y - 1) x h (let q = less in omega arith) more
-          ∙ rise (cases_lt (place n up y) (place n up (up x)))
-          ∙ sym (meet_higher n up grows x y h off)
-        where
-          g' : Vertex n (up x)
-          g' = parent_vertex n up grows x h more
-
-          less : place n up x < place n up y
-          less = let d : place n up x ≡ place n up y → ⊥ = λ e. s (place_apart n up grows x y h g e) in omega arith
-
-          off : under n up y x ≡ false
-          off = false_from_ne_true _ (λ b.
-              let c = block n up grows x h in
-              let d = c.inner y b in
-              let e = c.last in
-              let q = less in
-              omega arith)
-
-          ahead : under n up (up x) a ≡ true
-          ahead = let c = under_once n up grows x a h in let o = off in grind (arith, nat_tests)
-
-          rise : (place n up y < place n up (up x)) ⊎ (place n up (up x) ≤ place n up y) →
-              top_after n up (place n up y - 1) (up x) ≡ meet n up (up x) y
-          rise (inr before) = i ahead before
-          rise (inl past) =
-              let c = block n up grows (up x) g' in
-              let d = c.inner x (under_parent n up grows x h more) in
-              let e = c.last in
-              let q = less in
-              top_here (place n up y - 1) (up x) g' (omega arith)
-              ∙ sym (meet_here n up grows (up x) y g' (c.outer y g (omega arith) (omega arith)))
+      not_under : (x : ℕ) → Vertex n x → place n up x < place n up y → under n up y x ≡ false
+      not_under x h less = false_from_ne_true _ (λ b.
+          let c = block n up grows x h in
+          let d = c.inner y b in
+          let e = c.last in
+          omega arith)
