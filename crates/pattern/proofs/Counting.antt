@@ -36,7 +36,7 @@ use Rattle.pattern.proofs.Paths.{edge}
 use Rattle.pattern.proofs.Tree.{parents_grow, way_lies}
 use Rattle.pattern.proofs.Rows.{fill_touches, touches_fill}
 use Rattle.pattern.proofs.Tallies.{bit, sum_same, sum_zero, sum_keep, sum_at, sum_scale, length_is_sum}
-use Rattle.pattern.proofs.Forest.{depth_more, level_depth, level_none, depth_counts, under_none, under_once, under_parts, under_by_children, in_children, under_level_le}
+use Rattle.pattern.proofs.Forest.{level_none, under_none, under_once, under_parts, under_by_children, in_children, under_level_le, under_counts, parent_counts}
 use Rattle.pattern.proofs.Places.{block}
 use Rattle.pattern.proofs.Meets.{meet_under, meet_of_both, meet_has_both}
 use Rattle.pattern.proofs.Telescope.{
@@ -187,10 +187,8 @@ module _ (p : Pattern) where
         sum (λ v. sum (λ x. bit (in_subtree p x v)) xs) (upto p.order) ≡ sum (level_of p) xs + length xs
     by_depth xs all =
         let a = sum_exchange (λ v x. bit (in_subtree p x v)) (upto p.order) xs in
-        let b = sum_same (λ x. sum (λ v. bit (in_subtree p x v)) (upto p.order)) (λ x. level_of p x + 1) xs (λ x o.
-        let c = depth_counts p.order (parent p) grows x (all x o).fits in
-        let d = level_depth p.order (parent p) grows x (all x o) in
-        omega arith) in
+        let b = sum_same (λ x. sum (λ v. bit (in_subtree p x v)) (upto p.order)) (λ x. level_of p x + 1) xs
+        (λ x o. omega (arith, under_counts p.order (parent p) grows x (all x o))) in
         let c = sum_plus (level_of p) (λ _. 1) xs in
         let d = length_is_sum xs in
         omega arith
@@ -206,9 +204,7 @@ module _ (p : Pattern) where
         (λ v. bit (in_subtree p (parent p u) v)) (upto n) in
         let e = sum_plus (λ v. sum (λ m. bit (in_subtree p m v)) (bends p l u)) (λ v. bit (in_row_test v u))
         (upto n) in
-        let f = depth_counts n (parent p) grows (parent p u) (grows.stays u h.named h.fits) in
-        let g = depth_more n (parent p) grows u h in
-        let i = level_depth n (parent p) grows u h in
+        let f = parent_counts n (parent p) grows u h in
         let j = row_tests u in
         let k = length_between (meet_of p) u l in
         let m = length-append l (u ∷ []) in

@@ -101,6 +101,17 @@ module _ (n : ℕ) (up : ℕ → ℕ) (grows : Grows n up) where
       let d = depth_more x h in
       omega arith)
 
+  -- a vertex lies under as many as its level and one, and its parent under as many as its level
+  pub under_counts : (x : ℕ) → Vertex n x → sum (λ v. bit (under n up x v)) (upto n) ≡ suc (level n up x)
+  under_counts x h = depth_counts x h.fits ∙ sym (level_depth x h)
+
+  pub parent_counts : (x : ℕ) → Vertex n x → sum (λ v. bit (under n up (up x) v)) (upto n) ≡ level n up x
+  parent_counts x h =
+      let a = depth_counts (up x) (grows.stays x h.named h.fits) in
+      let b = depth_more x h in
+      let c = level_depth x h in
+      omega arith
+
   pub level_none : level n up 0 ≡ 0
   unfolding level depth
   level_none = let d = depth_none in omega arith

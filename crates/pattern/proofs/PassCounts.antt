@@ -17,7 +17,7 @@ use Rattle.pattern.proofs.Tallies.{bit, bit_bound, sum_same, length_is_sum}
 use Rattle.pattern.proofs.Lines.{under_self, under_trans}
 use Rattle.pattern.proofs.Joins.{shares_parts}
 use Rattle.pattern.proofs.Tree.{parents_grow}
-use Rattle.pattern.proofs.Forest.{depth_more, level_depth, depth_counts, under_parts}
+use Rattle.pattern.proofs.Forest.{under_parts, under_counts, parent_counts}
 use Rattle.pattern.proofs.Places.{block}
 use Rattle.pattern.proofs.Meets.{meet_of_both}
 use Rattle.pattern.proofs.Telescope.{any_has, any_tells, unfalling_push}
@@ -162,8 +162,7 @@ module _ (p : Pattern) where
   unfolding reaches
   row_reached u h [] q =
       let a = row_none p u in
-      let b = depth_counts p.order (parent p) (parents_grow p) u h.fits in
-      let c = level_depth p.order (parent p) (parents_grow p) u h in
+      let b = under_counts p.order (parent p) (parents_grow p) u h in
       omega arith
   row_reached u h ((x, w) ∷ es) q =
       let i = row_reached u h es (passing_older p x w es q) in
@@ -191,10 +190,8 @@ module _ (p : Pattern) where
           let a = sum_same _ _ (upto n) (λ v o. reaches_more x u es k v) in
           let b = sum_plus (λ v. bit (reaches u v ((x, u) ∷ es))) (λ v. bit (in_subtree p bend v)) (upto n) in
           let c = sum_plus (λ v. bit (reaches u v es)) (λ v. bit (in_subtree p x v)) (upto n) in
-          let d = depth_counts n (parent p) (parents_grow p) bend at.vertex.fits in
-          let e = level_depth n (parent p) (parents_grow p) bend at.vertex in
-          let f = depth_counts n (parent p) (parents_grow p) x new.from.fits in
-          let g = level_depth n (parent p) (parents_grow p) x new.from in
+          let d = under_counts n (parent p) (parents_grow p) bend at.vertex in
+          let f = under_counts n (parent p) (parents_grow p) x new.from in
           let l = at.level in
           let r = row_own p x u es in
           omega arith
@@ -269,7 +266,5 @@ module _ (p : Pattern) where
       let b = sum_same _ _ (upto n) (λ v o. reached es q u v h (in_upto n v o)) in
       let c = sum_plus (λ v. bit (in_row_test p v u)) (λ v. bit (in_subtree p (parent p u) v)) (upto n) in
       let d = row_tests p u in
-      let e = depth_counts n (parent p) (parents_grow p) (parent p u) ((parents_grow p).stays u low high) in
-      let f = depth_more n (parent p) (parents_grow p) u h in
-      let g = level_depth n (parent p) (parents_grow p) u h in
+      let e = parent_counts n (parent p) (parents_grow p) u h in
       omega arith
