@@ -36,7 +36,17 @@ use Rattle.pattern.proofs.Paths.{edge}
 use Rattle.pattern.proofs.Tree.{parents_grow, way_lies}
 use Rattle.pattern.proofs.Rows.{fill_touches, touches_fill}
 use Rattle.pattern.proofs.Tallies.{bit, sum_same, sum_zero, sum_keep, sum_at, sum_scale, length_is_sum}
-use Rattle.pattern.proofs.Forest.{level_none, under_none, under_once, under_parts, under_by_children, in_children, under_level_le, under_counts, parent_counts}
+use Rattle.pattern.proofs.Forest.{
+  level_none,
+  under_none,
+  under_once,
+  under_parts,
+  under_by_children,
+  in_children,
+  under_level_le,
+  under_counts,
+  parent_counts,
+}
 use Rattle.pattern.proofs.Places.{block}
 use Rattle.pattern.proofs.Meets.{meet_under, meet_of_both, meet_has_both}
 use Rattle.pattern.proofs.Telescope.{

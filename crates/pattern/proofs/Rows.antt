@@ -8,7 +8,16 @@ use Rattle.pattern.specs.Fill.{in_subtree, Keeps}
 use Rattle.pattern.proofs.Tests.{Vertex}
 use Rattle.pattern.proofs.Lists.{in_own, own_has, keep_grows, sum_grows}
 use Rattle.pattern.proofs.Lines.{climb_of, under_of, under_self, last_climb, climb_start}
-use Rattle.pattern.proofs.Joins.{Ends, shares_parts, shares_from, joined_start, joined_parts, joined_before, joined_now, fill_ends}
+use Rattle.pattern.proofs.Joins.{
+  Ends,
+  shares_parts,
+  shares_from,
+  joined_start,
+  joined_parts,
+  joined_before,
+  joined_now,
+  fill_ends,
+}
 use Rattle.pattern.proofs.Paths.{Way, edge, hop, join, back, last_step, fill_way, way_fill}
 use Rattle.pattern.proofs.Tree.{parent_is, parents_grow, climb_way, parent_joined, way_lies}
 
