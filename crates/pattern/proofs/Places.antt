@@ -13,6 +13,7 @@ use Rattle.pattern.proofs.Lines.{under_self, under_le}
 use Rattle.pattern.proofs.Forest.{under_parts, in_children, size_by_children, parent_vertex}
 use Rattle.pattern.proofs.Tallies.{
   bit,
+  tally,
   sum_same,
   sum_each,
   length_is_sum,
@@ -76,7 +77,7 @@ module _ (n : ℕ) (up : ℕ → ℕ) (grows : Grows n up) where
   spot_cut v h before inner behind e =
       let same = e ∙ sym (append_assoc before inner (v ∷ behind)) in
       let a = whole_once n up grows v h in
-      let b = ap (sum (λ y. bit (eqb y v))) same in
+      let b = ap (tally v) same in
       let c = position_here v (before ++ inner) behind (omega arith) in
       let d = ap (position v) same in
       let f = length-append before inner in
@@ -110,16 +111,16 @@ module _ (n : ℕ) (up : ℕ → ℕ) (grows : Grows n up) where
     unfolding own
     length_own = length_visit n up grows (suc r.fuel) v h (r.enough h.named)
 
-    own_counts : (x : ℕ) → sum (λ y. bit (eqb y x)) own ≡ bit (under n up x v)
+    own_counts : (x : ℕ) → tally x own ≡ bit (under n up x v)
     unfolding own
     own_counts x = visit_counts n up grows (suc r.fuel) v h (r.enough h.named) x
 
-    parts_count : (x : ℕ) → Vertex n x → sum (λ y. bit (eqb y x)) r.before + bit (under n up x v)
-        + sum (λ y. bit (eqb y x)) r.behind ≡ 1
+    parts_count : (x : ℕ) → Vertex n x → tally x r.before + bit (under n up x v)
+        + tally x r.behind ≡ 1
     unfolding own
     parts_count x g =
         let a = whole_once n up grows x g.fits in
-        let b = ap (sum (λ y. bit (eqb y x))) r.cut in
+        let b = ap (tally x) r.cut in
         let c = sum_append (λ y. bit (eqb y x)) r.before (own ++ r.behind) in
         let d = sum_append (λ y. bit (eqb y x)) own r.behind in
         let e = own_counts x in

@@ -13,6 +13,10 @@ use Rattle.pattern.proofs.Tests.{Vertex}
 abbrev pub bit : Bool → ℕ
 bit b = cond b 1 0
 
+-- how often v is one of xs
+abbrev pub tally : ℕ → List ℕ → ℕ
+tally v xs = sum (λ y. bit (eqb y v)) xs
+
 pub bit_bound : (b : Bool) → bit b ≤ 1
 bit_bound true = omega arith
 bit_bound false = omega arith
@@ -69,19 +73,19 @@ sum_at (suc n) x f low high =
 
 -- a test that only numbers from 1 to n pass, counted over them, is counted at most once for each member
 pub length_by_values : (n : ℕ) (xs : List ℕ) → ((x : ℕ) → occurs x xs ≡ true → Vertex n x) →
-    sum (λ x. sum (λ y. bit (eqb y x)) xs) (upto n) ≡ length xs
+    sum (λ x. tally x xs) (upto n) ≡ length xs
 length_by_values n xs inside =
     sum_exchange (λ x y. bit (eqb y x)) (upto n) xs
     ∙ sum_same _ (λ _. 1) xs (λ y o. let h = inside y o in sum_at n y (λ _. 1) h.named h.fits)
     ∙ sym (length_is_sum xs)
 
 -- a number is a member exactly when it is counted
-pub occurs_counted : (v : ℕ) (xs : List ℕ) → occurs v xs ≡ true → 1 ≤ sum (λ y. bit (eqb y v)) xs
+pub occurs_counted : (v : ℕ) (xs : List ℕ) → occurs v xs ≡ true → 1 ≤ tally v xs
 unfolding occurs sum
 occurs_counted v [] o = absurd (false≢true o)
 occurs_counted v (x ∷ xs) o = let i = occurs_counted v xs in grind (arith, nat_tests)
 
-pub occurs_uncounted : (v : ℕ) (xs : List ℕ) → occurs v xs ≡ false → sum (λ y. bit (eqb y v)) xs ≡ 0
+pub occurs_uncounted : (v : ℕ) (xs : List ℕ) → occurs v xs ≡ false → tally v xs ≡ 0
 unfolding occurs sum
 occurs_uncounted v [] o = refl
 occurs_uncounted v (x ∷ xs) o = let i = occurs_uncounted v xs in grind (arith, nat_tests)
@@ -106,14 +110,14 @@ position_right v (x ∷ xs) ys o h =
     let b = position_bounds v ys h in
     grind (arith, nat_tests)
 
-pub occurs_from_count : (v : ℕ) (xs : List ℕ) → 1 ≤ sum (λ y. bit (eqb y v)) xs → occurs v xs ≡ true
+pub occurs_from_count : (v : ℕ) (xs : List ℕ) → 1 ≤ tally v xs → occurs v xs ≡ true
 occurs_from_count v xs l = true_from_ne_false _ (λ o. omega (arith, occurs_uncounted v xs o))
 
-pub absent_from_count : (v : ℕ) (xs : List ℕ) → sum (λ y. bit (eqb y v)) xs ≡ 0 → occurs v xs ≡ false
+pub absent_from_count : (v : ℕ) (xs : List ℕ) → tally v xs ≡ 0 → occurs v xs ≡ false
 absent_from_count v xs z = false_from_ne_true _ (λ o. omega (arith, occurs_counted v xs o))
 
 -- where v stands in a list that holds it once
-pub position_here : (v : ℕ) (xs ys : List ℕ) → sum (λ y. bit (eqb y v)) (xs ++ v ∷ ys) ≤ 1 →
+pub position_here : (v : ℕ) (xs ys : List ℕ) → tally v (xs ++ v ∷ ys) ≤ 1 →
     position v (xs ++ v ∷ ys) ≡ suc (length xs)
 unfolding sum occurs position
 position_here v xs ys l =
@@ -129,7 +133,7 @@ pub occurs_get_or : (xs : List ℕ) (k d : ℕ) → k < length xs → occurs (ge
 unfolding occurs
 occurs_get_or xs k d l = list_any_at (λ x. eqb x (get_or xs k d)) xs k d l (eq-eqb _ _ refl)
 
-pub position_get_or : (xs : List ℕ) (k d : ℕ) → k < length xs → sum (λ y. bit (eqb y (get_or xs k d))) xs ≤ 1 →
+pub position_get_or : (xs : List ℕ) (k d : ℕ) → k < length xs → tally (get_or xs k d) xs ≤ 1 →
     position (get_or xs k d) xs ≡ suc k
 unfolding sum position
 position_get_or [] k d l o = absurd (omega arith)

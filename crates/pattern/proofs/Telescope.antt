@@ -9,6 +9,7 @@ use Rattle.pattern.specs.Counts.{between, unfalling}
 use Rattle.pattern.proofs.Lists.{occurs_append, keep_occurs, sum_append, occurs_here}
 use Rattle.pattern.proofs.Tallies.{
   bit,
+  tally,
   occurs_counted,
   absent_from_count,
   position_right,
@@ -71,17 +72,17 @@ unfalling_push f u (x ∷ y ∷ xs) r le =
 
 -- a list that holds each of its members once: what is kept of it is kept in the order of the positions
 pub position_after : (all before xs : List ℕ) → all ≡ before ++ xs → (y : ℕ) → occurs y xs ≡ true →
-    sum (λ z. bit (eqb z y)) all ≤ 1 → length before < position y all
+    tally y all ≤ 1 → length before < position y all
 position_after all before xs e y o l =
     let a = sum_append (λ z. bit (eqb z y)) before xs in
-    let b = ap (sum (λ z. bit (eqb z y))) e in
+    let b = ap (tally y) e in
     let c = occurs_counted y xs o in
     let d = position_right y before xs (absent_from_count y before (omega arith)) o in
     let f = position_bounds y xs o in
     let g = ap (position y) e in
     omega arith
 
-pub kept_in_order : (all : List ℕ) → ((x : ℕ) → occurs x all ≡ true → sum (λ z. bit (eqb z x)) all ≤ 1) →
+pub kept_in_order : (all : List ℕ) → ((x : ℕ) → occurs x all ≡ true → tally x all ≤ 1) →
     (test : ℕ → Bool) (before xs : List ℕ) → all ≡ before ++ xs → unfalling (λ x. position x all) (keep test xs) ≡ true
 unfolding keep unfalling occurs
 kept_in_order all once test before [] e = refl
@@ -103,7 +104,7 @@ kept_in_order all once test before (x ∷ xs) e =
         let k : occurs y (x ∷ xs) ≡ true = or_right (eqb x y) _ m in
         let a = position_after all (before ++ x ∷ []) xs split y m (once y (held y k)) in
         let b = ap (position x) e in
-        let c = ap (sum (λ z. bit (eqb z x))) e in
+        let c = ap (tally x) e in
         let f = once x (held x (occurs_here x xs)) in
         let d = position_here x before xs (omega arith) in
         let g = length-append before (x ∷ []) in

@@ -20,6 +20,7 @@ use Rattle.pattern.proofs.Forest.{
 }
 use Rattle.pattern.proofs.Tallies.{
   bit,
+  tally,
   sum_same,
   sum_zero,
   sum_each,
@@ -42,7 +43,7 @@ whole n up = walk n up ++ 0 ∷ []
 module _ (n : ℕ) (up : ℕ → ℕ) (grows : Grows n up) where
   -- the walk of a subtree holds each of its vertices once, and nothing else
   pub visit_counts : (k v : ℕ) → Vertex n v → v ≤ k → (x : ℕ) →
-      sum (λ y. bit (eqb y x)) (visit n up k v) ≡ bit (under n up x v)
+      tally x (visit n up k v) ≡ bit (under n up x v)
   unfolding visit sum
   visit_counts zero v h l x = absurd (let m = h.named in omega arith)
   visit_counts (suc k) v h l x =
@@ -68,7 +69,7 @@ module _ (n : ℕ) (up : ℕ → ℕ) (grows : Grows n up) where
       ∙ sum_same _ _ (upto n) (λ x o. visit_counts k v h l x)
       ∙ sym (size_counts n up grows v)
 
-  pub walk_counts : (x : ℕ) → sum (λ y. bit (eqb y x)) (walk n up) ≡ bit (within n x)
+  pub walk_counts : (x : ℕ) → tally x (walk n up) ≡ bit (within n x)
   unfolding walk within
   walk_counts x =
       let b = sum_each (λ y. bit (eqb y x)) (visit n up n) (children n up 0) in
@@ -89,7 +90,7 @@ module _ (n : ℕ) (up : ℕ → ℕ) (grows : Grows n up) where
       let w : within n x ≡ true = grind (arith, nat_tests) in
       within_parts n x w
 
-  pub walk_once : (x : ℕ) → Vertex n x → sum (λ y. bit (eqb y x)) (walk n up) ≡ 1
+  pub walk_once : (x : ℕ) → Vertex n x → tally x (walk n up) ≡ 1
   walk_once x h = walk_counts x ∙ ap bit (within_from n x h)
 
   pub on_walk : (x : ℕ) → Vertex n x → occurs x (walk n up) ≡ true
@@ -101,7 +102,7 @@ module _ (n : ℕ) (up : ℕ → ℕ) (grows : Grows n up) where
       ∙ sum_same _ (λ _. 1) (upto n) (λ x o. walk_once x (in_upto n x o))
       ∙ sym (length_is_sum (upto n)) ∙ length_upto n
 
-  pub whole_once : (x : ℕ) → x ≤ n → sum (λ y. bit (eqb y x)) (whole n up) ≡ 1
+  pub whole_once : (x : ℕ) → x ≤ n → tally x (whole n up) ≡ 1
   unfolding whole sum within
   whole_once x h =
       let a = sum_append (λ y. bit (eqb y x)) (walk n up) (0 ∷ []) in
