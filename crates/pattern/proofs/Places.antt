@@ -7,13 +7,14 @@ use Rattle.pattern.specs.Lists.{upto, sum, occurs, each, position, greatest}
 use Rattle.pattern.specs.Forest.{Grows, under, children, visit, walk, place, subtree, first_place, level, height}
 use Rattle.pattern.specs.Walks.{size, at_place, EachOnce, Interval, SiblingsAscend, times}
 use Rattle.pattern.proofs.Tests.{Vertex}
-use Rattle.pattern.proofs.Lists.{occurs_append, keep_occurs, in_keep, keep_has, sum_grows, sum_append, keep_none}
+use Rattle.pattern.proofs.Lists.{occurs_append, keep_occurs, in_keep, keep_has, sum_grows, keep_none}
 use Rattle.pattern.proofs.Sums.{sum_plus, count_is_sum}
 use Rattle.pattern.proofs.Lines.{under_self, under_le}
 use Rattle.pattern.proofs.Forest.{under_parts, in_children, size_by_children, parent_vertex}
 use Rattle.pattern.proofs.Tallies.{
   bit,
   tally,
+  tally_append,
   sum_same,
   sum_each,
   length_is_sum,
@@ -115,14 +116,13 @@ module _ (n : ℕ) (up : ℕ → ℕ) (grows : Grows n up) where
     unfolding own
     own_counts x = visit_counts n up grows (suc r.fuel) v h (r.enough h.named) x
 
-    parts_count : (x : ℕ) → Vertex n x → tally x r.before + bit (under n up x v)
-        + tally x r.behind ≡ 1
+    parts_count : (x : ℕ) → Vertex n x → tally x r.before + bit (under n up x v) + tally x r.behind ≡ 1
     unfolding own
     parts_count x g =
         let a = whole_once n up grows x g.fits in
         let b = ap (tally x) r.cut in
-        let c = sum_append (λ y. bit (eqb y x)) r.before (own ++ r.behind) in
-        let d = sum_append (λ y. bit (eqb y x)) own r.behind in
+        let c = tally_append x r.before (own ++ r.behind) in
+        let d = tally_append x own r.behind in
         let e = own_counts x in
         omega arith
 

@@ -57,6 +57,9 @@ unfolding sum
 length_is_sum [] = refl
 length_is_sum (x ∷ xs) = let i = length_is_sum xs in omega arith
 
+pub tally_append : (v : ℕ) (xs ys : List ℕ) → tally v (xs ++ ys) ≡ tally v xs + tally v ys
+tally_append v xs ys = sum_append (λ y. bit (eqb y v)) xs ys
+
 -- a sum from 1 to n that counts only x
 pub sum_past : (n x : ℕ) (f : ℕ → ℕ) → n < x → sum (λ c. cond (eqb x c) (f c) 0) (upto n) ≡ 0
 sum_past n x f past = sum_zero _ (upto n) (λ c o.
@@ -121,7 +124,7 @@ pub position_here : (v : ℕ) (xs ys : List ℕ) → tally v (xs ++ v ∷ ys) �
     position v (xs ++ v ∷ ys) ≡ suc (length xs)
 unfolding sum occurs position
 position_here v xs ys l =
-    let a = sum_append (λ y. bit (eqb y v)) xs (v ∷ ys) in
+    let a = tally_append v xs (v ∷ ys) in
     let e = eq-eqb v v refl in
     let b : bit (eqb v v) ≡ 1 = ap bit e in
     let o = absent_from_count v xs (omega arith) in

@@ -6,10 +6,11 @@ use Rattle.std.proofs.lemmas.Bool.Decides.{nat_tests}
 use Rattle.std.proofs.lemmas.List.{append_assoc, length-append}
 use Rattle.pattern.specs.Lists.{sum, occurs, position, keep}
 use Rattle.pattern.specs.Counts.{between, unfalling}
-use Rattle.pattern.proofs.Lists.{occurs_append, keep_occurs, sum_append, occurs_here}
+use Rattle.pattern.proofs.Lists.{occurs_append, keep_occurs, occurs_here}
 use Rattle.pattern.proofs.Tallies.{
   bit,
   tally,
+  tally_append,
   occurs_counted,
   absent_from_count,
   position_right,
@@ -74,7 +75,7 @@ unfalling_push f u (x ∷ y ∷ xs) r le =
 pub position_after : (all before xs : List ℕ) → all ≡ before ++ xs → (y : ℕ) → occurs y xs ≡ true →
     tally y all ≤ 1 → length before < position y all
 position_after all before xs e y o l =
-    let a = sum_append (λ z. bit (eqb z y)) before xs in
+    let a = tally_append y before xs in
     let b = ap (tally y) e in
     let c = occurs_counted y xs o in
     let d = position_right y before xs (absent_from_count y before (omega arith)) o in

@@ -8,7 +8,7 @@ use Rattle.pattern.specs.Patterns.{within}
 use Rattle.pattern.specs.Forest.{Grows, under, children, visit, walk}
 use Rattle.pattern.specs.Walks.{size}
 use Rattle.pattern.proofs.Tests.{Vertex, within_parts, within_from, eqb_swap}
-use Rattle.pattern.proofs.Lists.{in_upto, length_upto, sum_append, each_append, keep_append}
+use Rattle.pattern.proofs.Lists.{in_upto, length_upto, each_append, keep_append}
 use Rattle.pattern.proofs.Forest.{
   from_parents,
   under_past,
@@ -21,6 +21,7 @@ use Rattle.pattern.proofs.Forest.{
 use Rattle.pattern.proofs.Tallies.{
   bit,
   tally,
+  tally_append,
   sum_same,
   sum_zero,
   sum_each,
@@ -47,7 +48,7 @@ module _ (n : ℕ) (up : ℕ → ℕ) (grows : Grows n up) where
   unfolding visit sum
   visit_counts zero v h l x = absurd (let m = h.named in omega arith)
   visit_counts (suc k) v h l x =
-      let a = sum_append (λ y. bit (eqb y x)) (each (visit n up k) (children n up v)) (v ∷ []) in
+      let a = tally_append x (each (visit n up k) (children n up v)) (v ∷ []) in
       let b = sum_each (λ y. bit (eqb y x)) (visit n up k) (children n up v) in
       let c = sum_same _ (λ c. bit (under n up x c)) (children n up v) (λ c o.
       let (g, e) = in_children n up grows c v o in
@@ -105,7 +106,7 @@ module _ (n : ℕ) (up : ℕ → ℕ) (grows : Grows n up) where
   pub whole_once : (x : ℕ) → x ≤ n → tally x (whole n up) ≡ 1
   unfolding whole sum within
   whole_once x h =
-      let a = sum_append (λ y. bit (eqb y x)) (walk n up) (0 ∷ []) in
+      let a = tally_append x (walk n up) (0 ∷ []) in
       let b = walk_counts x in
       grind (arith, nat_tests)
 
