@@ -7,10 +7,10 @@ use Rattle.pattern.specs.Patterns.{within}
 use Rattle.pattern.specs.Forest.{Grows, line_from, line, under, subtree, level, children}
 use Rattle.pattern.specs.Walks.{size}
 use Rattle.pattern.proofs.Tests.{Vertex, within_from, outside, eqb_swap}
-use Rattle.pattern.proofs.Lists.{in_upto, keep_occurs, sum_grows, length_upto}
+use Rattle.pattern.proofs.Lists.{in_upto, keep_occurs}
 use Rattle.pattern.proofs.Sums.{sum_plus, sum_exchange, count_is_sum}
 use Rattle.pattern.proofs.Lines.{enough, climb_of, climb_end, climb_start, under_step, under_self, under_le}
-use Rattle.pattern.proofs.Tallies.{bit, bit_bound, length_is_sum, sum_same, sum_zero, sum_keep, sum_at}
+use Rattle.pattern.proofs.Tallies.{bit, sum_same, sum_zero, sum_keep, sum_at, bits_fit}
 
 -- the length of the line: the level and one more, and 0 at 0
 unfoldable pub depth : ℕ → (ℕ → ℕ) → ℕ → ℕ
@@ -213,12 +213,7 @@ module _ (n : ℕ) (up : ℕ → ℕ) (grows : Grows n up) where
   size_counts v = count_is_sum (λ x. under n up x v) (upto n)
 
   pub size_bound : (v : ℕ) → size n up v ≤ n
-  size_bound v =
-      let a = size_counts v in
-      let c = sum_grows (λ x. bit (under n up x v)) (λ _. 1) (λ x. bit_bound (under n up x v)) (upto n) in
-      let d = length_is_sum (upto n) in
-      let e = length_upto n in
-      omega arith
+  size_bound v = omega (arith, size_counts v, bits_fit (λ x. under n up x v) n)
 
   pub size_by_children : (v : ℕ) → Vertex n v → size n up v ≡ sum (size n up) (children n up v) + 1
   size_by_children v h =

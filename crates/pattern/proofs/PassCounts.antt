@@ -11,9 +11,9 @@ use Rattle.pattern.specs.Fill.{in_subtree}
 use Rattle.pattern.specs.Counts.{unfalling, RowFrom, stops}
 use Rattle.pattern.specs.Passes.{happened, last_met, bend_at, row_so_far, Passing, Passed}
 use Rattle.pattern.proofs.Tests.{Vertex, same_test}
-use Rattle.pattern.proofs.Lists.{occurs_append, in_upto, sum_grows, length_upto}
+use Rattle.pattern.proofs.Lists.{occurs_append, in_upto}
 use Rattle.pattern.proofs.Sums.{sum_plus}
-use Rattle.pattern.proofs.Tallies.{bit, bit_bound, sum_same, length_is_sum}
+use Rattle.pattern.proofs.Tallies.{bit, sum_same, bits_fit}
 use Rattle.pattern.proofs.Lines.{under_self, under_trans}
 use Rattle.pattern.proofs.Joins.{shares_parts}
 use Rattle.pattern.proofs.Tree.{parents_grow}
@@ -200,12 +200,7 @@ module _ (p : Pattern) where
   pub row_fits : (u : ℕ) → 1 ≤ u → u ≤ p.order → (es : List (ℕ × ℕ)) → Passing p es →
       row_so_far p u es + level_of p u ≤ p.order
   row_fits u low high es q =
-      let n = p.order in
-      let a = row_reached u (record { named = low; fits = high }) es q in
-      let b = sum_grows (λ v. bit (reaches u v es)) (λ _. 1) (λ v. bit_bound (reaches u v es)) (upto n) in
-      let c = length_is_sum (upto n) in
-      let d = length_upto n in
-      omega arith
+      omega (arith, row_reached u (record { named = low; fits = high }) es q, bits_fit (λ v. reaches u v es) p.order)
 
   -- the events of u, from the oldest to the newest, serve row u
   met_placed : (u : ℕ) (es : List (ℕ × ℕ)) → Passing p es → unfalling (place_of p) (met u es) ≡ true

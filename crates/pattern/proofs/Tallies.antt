@@ -60,6 +60,13 @@ length_is_sum (x ∷ xs) = let i = length_is_sum xs in omega arith
 pub tally_append : (v : ℕ) (xs ys : List ℕ) → tally v (xs ++ ys) ≡ tally v xs + tally v ys
 tally_append v xs ys = sum_append (λ y. bit (eqb y v)) xs ys
 
+-- of 1 to n at most n pass a test
+pub bits_fit : (test : ℕ → Bool) (n : ℕ) → sum (λ x. bit (test x)) (upto n) ≤ n
+unfolding upto sum
+bits_fit test zero = omega arith
+bits_fit test (suc n) =
+    omega (arith, bits_fit test n, bit_bound (test (suc n)), sum_append (λ x. bit (test x)) (upto n) (suc n ∷ []))
+
 -- a sum from 1 to n that counts only x
 pub sum_past : (n x : ℕ) (f : ℕ → ℕ) → n < x → sum (λ c. cond (eqb x c) (f c) 0) (upto n) ≡ 0
 sum_past n x f past = sum_zero _ (upto n) (λ c o.
