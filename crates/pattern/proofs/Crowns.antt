@@ -1,6 +1,6 @@
 -- The tree grown row by row: the laws of crowns, which vertices a row gives their parent, and the tables row by row.
 use Rattle.std.proofs.Common.{◌≡◌, ℕ, zero, suc, ◌+◌, ◌<◌, ◌≤◌, true, false, cond, not, ◌&&◌, eqb, ◌⊎◌, sym, refl, ap, ◌∙◌, subst, inl, inr, arith}
-use Rattle.std.proofs.lemmas.Bool.{cases_eq, cases_lt, cond-true, cond-false, eq-eqb, ne_eqb, eqb-true}
+use Rattle.std.proofs.lemmas.Bool.{cases_eq, cases_lt, cond-true, cond-false, eq-eqb, ne_eqb}
 use Rattle.std.proofs.lemmas.Bool.Decides.{nat_tests}
 use Rattle.pattern.specs.Patterns.{Pattern, shares}
 use Rattle.pattern.specs.Elimination.{parent}
@@ -8,7 +8,7 @@ use Rattle.pattern.specs.Forest.{Grows, under}
 use Rattle.pattern.specs.Fill.{in_subtree}
 use Rattle.pattern.specs.Crowns.{crown, crown_of, cut, AfterRows, InRow, Adopts}
 use Rattle.pattern.proofs.Forest.{parent_vertex}
-use Rattle.pattern.proofs.Tests.{Vertex, same_test}
+use Rattle.pattern.proofs.Tests.{Vertex}
 use Rattle.pattern.proofs.Lines.{
   Climb,
   here,
@@ -277,9 +277,7 @@ module _ (p : Pattern) where
 
       same_mark : (v : ℕ) → 1 ≤ v → v ≤ p.order → eqb (P v) w ≡ eqb (parent p v) w
       same_mark v some fits =
-          same_test _ _
-          (λ e. eq-eqb _ _ (sym (in_row.parents v some fits ∙ cond-true _ _ _ e) ∙ eqb-true _ _ e))
-          (λ e. eq-eqb _ _ (due v (eqb-true _ _ e)))
+          let held = in_row.parents v some fits in let own = due v in grind (arith, nat_tests)
 
       crown_next : (x : ℕ) → crown_of p w x ≡ cond (eqb (parent p (crown_of p u x)) w) w (crown_of p u x)
       crown_next x =

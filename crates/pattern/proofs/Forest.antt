@@ -107,29 +107,17 @@ module _ (n : ℕ) (up : ℕ → ℕ) (grows : Grows n up) where
 
   pub parent_counts : (x : ℕ) → Vertex n x → sum (λ v. bit (under n up (up x) v)) (upto n) ≡ level n up x
   parent_counts x h =
-      let a = depth_counts (up x) (grows.stays x h.named h.fits) in
-      let b = depth_more x h in
-      let c = level_depth x h in
-      omega arith
+      omega (arith, depth_counts (up x) (grows.stays x h.named h.fits), depth_more x h, level_depth x h)
 
   pub level_none : level n up 0 ≡ 0
   unfolding level depth
   level_none = let d = depth_none in omega arith
 
   pub level_root : (x : ℕ) → Vertex n x → up x ≡ 0 → level n up x ≡ 0
-  level_root x h e =
-      let a = level_depth x h in
-      let b = depth_more x h in
-      let c = ap (depth n up) e in
-      let d = depth_none in
-      omega arith
+  level_root x h e = omega (arith, level_depth x h, depth_more x h, ap (depth n up) e, depth_none)
 
   pub level_child : (x : ℕ) → Vertex n x → 1 ≤ up x → level n up x ≡ level n up (up x) + 1
-  level_child x h l =
-      let a = level_depth x h in
-      let b = depth_more x h in
-      let c = level_depth (up x) (parent_vertex x h l) in
-      omega arith
+  level_child x h l = omega (arith, level_depth x h, depth_more x h, level_depth (up x) (parent_vertex x h l))
 
   -- the vertices of a line rise to at most n, so the level is at most what is left to n
   pub level_bound : (x : ℕ) → x ≤ n → level n up x + x ≤ n
@@ -137,11 +125,8 @@ module _ (n : ℕ) (up : ℕ → ℕ) (grows : Grows n up) where
       (let e = level_none in omega arith)
       (λ x h i.
       elim (cases_lt 0 (up x)) [
-        | inl more ↦
-            let e = level_child x h more in
-            let r = grows.rises x h.named h.fits more in
-            omega arith
-        | inr none ↦ let e = level_root x h (omega arith) in let l = h.fits in omega arith
+        | inl more ↦ omega (arith, level_child x h more, grows.rises x h.named h.fits more)
+        | inr none ↦ omega (arith, level_root x h (omega arith), h.fits)
       ])
 
   -- an ancestor has a smaller level

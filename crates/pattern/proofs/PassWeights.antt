@@ -1,6 +1,6 @@
 -- The weights of the pass by place: at the end they are the weights of the pattern.
-use Rattle.std.proofs.Common.{◌≡◌, ℕ, ◌+◌, ◌≤◌, true, cond, eqb, ◌⊎◌, List, [], ◌∷◌, ℤ, pos, ◌-ℤ◌, sym, refl, ap, ◌∙◌, inl, inr, arith}
-use Rattle.std.proofs.lemmas.Bool.{cases_eq, or_right, cond-true, cond-false, eq-eqb, ne_eqb}
+use Rattle.std.proofs.Common.{◌≡◌, ℕ, ◌+◌, ◌≤◌, true, cond, eqb, List, [], ◌∷◌, ℤ, pos, ◌-ℤ◌, sym, refl, ap, ◌∙◌, arith}
+use Rattle.std.proofs.lemmas.Bool.{or_right}
 use Rattle.std.proofs.lemmas.Bool.Decides.{nat_tests}
 use Rattle.std.proofs.lemmas.Int.{ints}
 use Rattle.pattern.specs.Lists.{upto, occurs, sum}
@@ -88,7 +88,7 @@ module _ (p : Pattern) where
       let over = bit (in_subtree p bend v) in
       let under = bit (in_subtree p x v) in
       let a = sum_same (λ w. bit (reaches p w v ((x, u) ∷ es)) + at over w)
-      (λ w. bit (reaches p w v es) + at under w) (upto n) (λ w o. row w (cases_eq u w)) in
+      (λ w. bit (reaches p w v es) + at under w) (upto n) (λ w o. row w) in
       let b = sum_plus (λ w. bit (reaches p w v ((x, u) ∷ es))) (at over) (upto n) in
       let c = sum_plus (λ w. bit (reaches p w v es)) (at under) (upto n) in
       let d = sum_at n u (λ _. over) new.to.named new.to.fits in
@@ -99,21 +99,12 @@ module _ (p : Pattern) where
       let k = pick n (parent p) g v x new.from.fits in
       omega arith
     where
-      row : (w : ℕ) → (u ≡ w) ⊎ (u ≡ w → ⊥) →
-          bit (reaches p w v ((x, u) ∷ es)) + cond (eqb u w) (bit (in_subtree p (bend_at p x u es) v)) 0
+      row : (w : ℕ) → bit (reaches p w v ((x, u) ∷ es)) + cond (eqb u w) (bit (in_subtree p (bend_at p x u es) v)) 0
           ≡ bit (reaches p w v es) + cond (eqb u w) (bit (in_subtree p x v)) 0
-      row w (inl e) =
-          let a = cond-true (eqb u w) (bit (in_subtree p (bend_at p x u es) v)) 0 (eq-eqb u w e) in
-          let b = cond-true (eqb u w) (bit (in_subtree p x v)) 0 (eq-eqb u w e) in
-          let c = reaches_more p x u es q v in
-          let d = ap (λ w. bit (reaches p w v ((x, u) ∷ es))) e in
-          let f = ap (λ w. bit (reaches p w v es)) e in
-          omega arith
-      row w (inr d) =
-          let a = cond-false (eqb u w) (bit (in_subtree p (bend_at p x u es) v)) 0 (ne_eqb u w d) in
-          let b = cond-false (eqb u w) (bit (in_subtree p x v)) 0 (ne_eqb u w d) in
-          let c = ap bit (reaches_other p x u es w v d) in
-          omega arith
+      row w =
+          let more = reaches_more p x u es q v in
+          let other = reaches_other p x u es w v in
+          grind (arith, nat_tests)
 
   module _ (es : List (ℕ × ℕ)) (q : Passed p es) where
     column_at : (v : ℕ) → Vertex p.order v →
