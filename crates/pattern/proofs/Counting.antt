@@ -343,9 +343,7 @@ sum_ℤ_is : (w : ℕ → ℤ) (f g h : ℕ → ℕ) (xs : List ℕ) →
 unfolding sum_ℤ sum occurs
 sum_ℤ_is w f g h [] each = refl
 sum_ℤ_is w f g h (x ∷ xs) each =
-    let i = sum_ℤ_is w f g h xs (λ y o. each y (or_right _ _ o)) in
-    let e = each x (occurs_here x xs) in
-    omega (arith, ints)
+    omega (arith, ints, sum_ℤ_is w f g h xs (λ y o. each y (or_right _ _ o)), each x (occurs_here x xs))
 
 -- weights by stops and bends
 module _ (p : Pattern) where

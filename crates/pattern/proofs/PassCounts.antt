@@ -161,9 +161,7 @@ module _ (p : Pattern) where
       row_so_far p u es + level_of p u ≡ sum (λ v. bit (reaches u v es)) (upto p.order)
   unfolding reaches
   row_reached u h [] q =
-      let a = row_none p u in
-      let b = under_counts p.order (parent p) (parents_grow p) u h in
-      omega arith
+      omega (arith, row_none p u, under_counts p.order (parent p) (parents_grow p) u h)
   row_reached u h ((x, w) ∷ es) q =
       let i = row_reached u h es (passing_older p x w es q) in
       elim (cases_eq w u) [

@@ -39,9 +39,7 @@ sum_ℤ_same : (f g : ℕ → ℤ) (xs : List ℕ) → ((x : ℕ) → occurs x x
 unfolding sum_ℤ occurs
 sum_ℤ_same f g [] same = refl
 sum_ℤ_same f g (x ∷ xs) same =
-    let a = same x (occurs_here x xs) in
-    let i = sum_ℤ_same f g xs (λ y o. same y (or_right _ _ o)) in
-    omega (arith, ints)
+    omega (arith, ints, same x (occurs_here x xs), sum_ℤ_same f g xs (λ y o. same y (or_right _ _ o)))
 
 -- how often v was a stop: of its own row, and at each event at v
 unfoldable stops_at : ℕ → List (ℕ × ℕ) → ℕ
@@ -59,11 +57,7 @@ module _ (p : Pattern) where
   unfolding stops_at bends_at born
   weight_counts v [] = let a = weight_none p v in omega (arith, ints)
   weight_counts v ((x, u) ∷ es) =
-      let i = weight_counts v es in
-      let a = weight_more p x u es v in
-      let b = one_is v x in
-      let c = one_is v (bend_at p x u es) in
-      omega (arith, ints)
+      omega (arith, ints, weight_counts v es, weight_more p x u es v, one_is v x, one_is v (bend_at p x u es))
 
   -- the stops under v are the bends under v and the rows that reach v
   stops_and_bends : (v : ℕ) (es : List (ℕ × ℕ)) → Passing p es →
@@ -102,9 +96,7 @@ module _ (p : Pattern) where
       row : (w : ℕ) → bit (reaches p w v ((x, u) ∷ es)) + cond (eqb u w) (bit (in_subtree p (bend_at p x u es) v)) 0
           ≡ bit (reaches p w v es) + cond (eqb u w) (bit (in_subtree p x v)) 0
       row w =
-          let more = reaches_more p x u es q v in
-          let other = reaches_other p x u es w v in
-          grind (arith, nat_tests)
+          grind (arith, nat_tests, reaches_more p x u es q v, reaches_other p x u es w v)
 
   module _ (es : List (ℕ × ℕ)) (q : Passed p es) where
     column_at : (v : ℕ) → Vertex p.order v →

@@ -153,9 +153,7 @@ module _ (n : ℕ) (up : ℕ → ℕ) (grows : Grows n up) where
         let t = spot_vertex x g in
         elim (cases_Bool (occurs x r.before)) [
           | inl o ↦
-              let a = position_left x r.before (own ++ r.behind) o in
-              let b = position_bounds x r.before o in
-              omega arith
+              omega (arith, position_left x r.before (own ++ r.behind) o, position_bounds x r.before o)
           | inr o ↦
               let a = parts_count x g in
               let b = ap bit u in

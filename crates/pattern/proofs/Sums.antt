@@ -18,9 +18,7 @@ pub sum_exchange : (f : ℕ → ℕ → ℕ) (xs ys : List ℕ) →
 unfolding sum
 sum_exchange f [] ys = sym (sum_none ys)
 sum_exchange f (x ∷ xs) ys =
-    let i = sum_exchange f xs ys in
-    let p = sum_plus (f x) (λ y. sum (λ x. f x y) xs) ys in
-    omega arith
+    omega (arith, sum_exchange f xs ys, sum_plus (f x) (λ y. sum (λ x. f x y) xs) ys)
 
 -- how many pass a test: the sum of 1 for each that passes and 0 for each other
 pub count_is_sum : (test : ℕ → Bool) (xs : List ℕ) → length (keep test xs) ≡ sum (λ x. cond (test x) 1 0) xs

@@ -32,9 +32,7 @@ pub sum_zero : (f : ℕ → ℕ) (xs : List ℕ) → ((x : ℕ) → occurs x xs 
 unfolding sum occurs
 sum_zero f [] none = refl
 sum_zero f (x ∷ xs) none =
-    let i = sum_zero f xs (λ y o. none y (or_right _ _ o)) in
-    let e = none x (occurs_here x xs) in
-    omega arith
+    omega (arith, sum_zero f xs (λ y o. none y (or_right _ _ o)), none x (occurs_here x xs))
 
 pub sum_keep : (f : ℕ → ℕ) (test : ℕ → Bool) (xs : List ℕ) → sum f (keep test xs) ≡ sum (λ x. cond (test x) (f x) 0) xs
 unfolding sum keep
@@ -116,9 +114,7 @@ pub position_right : (v : ℕ) (xs ys : List ℕ) → occurs v xs ≡ false → 
 unfolding occurs position
 position_right v [] ys o h = omega arith
 position_right v (x ∷ xs) ys o h =
-    let i = position_right v xs ys in
-    let b = position_bounds v ys h in
-    grind (arith, nat_tests)
+    grind (arith, nat_tests, position_right v xs ys, position_bounds v ys h)
 
 pub occurs_from_count : (v : ℕ) (xs : List ℕ) → 1 ≤ tally v xs → occurs v xs ≡ true
 occurs_from_count v xs l = true_from_ne_false _ (λ o. omega (arith, occurs_uncounted v xs o))
@@ -188,9 +184,7 @@ pub least_ge : (b : ℕ) (f : ℕ → ℕ) (xs : List ℕ) (a : ℕ) → a ≤ b
 unfolding least occurs
 least_ge b f [] a l all = l
 least_ge b f (y ∷ xs) a l all =
-    let i = least_ge b f xs a l (λ x o. all x (or_right _ _ o)) in
-    let h = all y (occurs_here y xs) in
-    omega arith
+    omega (arith, least_ge b f xs a l (λ x o. all x (or_right _ _ o)), all y (occurs_here y xs))
 
 pub greatest_ge : (f : ℕ → ℕ) (xs : List ℕ) (x : ℕ) → occurs x xs ≡ true → f x ≤ greatest f xs
 unfolding greatest occurs

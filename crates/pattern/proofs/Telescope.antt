@@ -140,9 +140,7 @@ unfolding between sum occurs
 falls_and_rests g f u [] le = refl
 falls_and_rests g f u (x ∷ []) le = let a = le x u (occurs_here x []) in omega arith
 falls_and_rests g f u (x ∷ y ∷ xs) le =
-    let a = le x y (occurs_here x (y ∷ xs)) in
-    let i = falls_and_rests g f u (y ∷ xs) (λ z w o. le z w (or_right _ _ o)) in
-    omega arith
+    omega (arith, le x y (occurs_here x (y ∷ xs)), falls_and_rests g f u (y ∷ xs) (λ z w o. le z w (or_right _ _ o)))
 
 -- has: the members whose value under f is past a and at most b; f does not fall, so they stand together
 module _ (has : ℕ → Bool) (f : ℕ → ℕ) (a b : ℕ) (meet : ℕ → ℕ → ℕ) where

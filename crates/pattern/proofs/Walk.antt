@@ -60,9 +60,7 @@ module _ (n : ℕ) (up : ℕ → ℕ) (grows : Grows n up) where
 
   pub in_visit : (k v : ℕ) → Vertex n v → v ≤ k → (x : ℕ) → occurs x (visit n up k v) ≡ true → under n up x v ≡ true
   in_visit k v h l x o =
-      let a = visit_counts k v h l x in
-      let b = occurs_counted x (visit n up k v) o in
-      grind (arith, nat_tests)
+      grind (arith, nat_tests, visit_counts k v h l x, occurs_counted x (visit n up k v) o)
 
   pub length_visit : (k v : ℕ) → Vertex n v → v ≤ k → length (visit n up k v) ≡ size n up v
   length_visit k v h l =
@@ -106,9 +104,7 @@ module _ (n : ℕ) (up : ℕ → ℕ) (grows : Grows n up) where
   pub whole_once : (x : ℕ) → x ≤ n → tally x (whole n up) ≡ 1
   unfolding whole sum within
   whole_once x h =
-      let a = tally_append x (walk n up) (0 ∷ []) in
-      let b = walk_counts x in
-      grind (arith, nat_tests)
+      grind (arith, nat_tests, tally_append x (walk n up) (0 ∷ []), walk_counts x)
 
   -- the children of a parent cut at one of them
   children_cut : (c : ℕ) → Vertex n c → (front : List ℕ) × (children n up (up c) ≡ front ++ c ∷ above n up (up c) c)
