@@ -1,7 +1,7 @@
 -- Two parent functions that agree on the vertices 1 to n make the same trees, with the same walk.
-use Rattle.std.proofs.Common.{◌≡◌, ℕ, zero, suc, ◌-◌, ◌≤◌, Bool, true, false, cond, eqb, ◌⊎◌, List, [], ◌∷◌, ◌++◌, length, get_or, sym, refl, ap, ◌∙◌, ap₂, inl, inr, arith}
+use Rattle.std.proofs.Common.{◌≡◌, ℕ, zero, suc, ◌-◌, ◌≤◌, Bool, true, cond, eqb, List, [], ◌∷◌, ◌++◌, length, get_or, sym, refl, ap, ◌∙◌, ap₂, inl, inr, arith}
 use mathlib.Core.Path.{fun_ext}
-use Rattle.std.proofs.lemmas.Bool.{cases_Bool, cond-false, eq-eqb, or_left, or_right}
+use Rattle.std.proofs.lemmas.Bool.{cases_Bool, cond-false, or_right}
 use Rattle.pattern.specs.Lists.{upto, keep, occurs, position, each, least, greatest}
 use Rattle.pattern.specs.Patterns.{within}
 use Rattle.pattern.specs.Forest.{
@@ -18,15 +18,15 @@ use Rattle.pattern.specs.Forest.{
   first_place,
   height,
 }
-use Rattle.pattern.specs.Walks.{size, at_place}
+use Rattle.pattern.specs.Walks.{at_place}
 use Rattle.pattern.proofs.Tests.{within_parts}
-use Rattle.pattern.proofs.Lists.{in_upto}
+use Rattle.pattern.proofs.Lists.{in_upto, occurs_here}
 
 keep_agrees : (s t : ℕ → Bool) (xs : List ℕ) → ((x : ℕ) → occurs x xs ≡ true → s x ≡ t x) → keep s xs ≡ keep t xs
 unfolding keep occurs
 keep_agrees s t [] same = refl
 keep_agrees s t (x ∷ xs) same =
-    ap₂ (λ b l. cond b (x ∷ l) l) (same x (or_left _ _ (eq-eqb x x refl)))
+    ap₂ (λ b l. cond b (x ∷ l) l) (same x (occurs_here x xs))
     (keep_agrees s t xs (λ y o. same y (or_right _ _ o)))
 
 module _ (n : ℕ) (up up' : ℕ → ℕ) (same : (v : ℕ) → 1 ≤ v → v ≤ n → up v ≡ up' v) where
@@ -40,15 +40,14 @@ module _ (n : ℕ) (up up' : ℕ → ℕ) (same : (v : ℕ) → 1 ≤ v → v �
   line_from_agrees : (k x : ℕ) → line_from n up k x ≡ line_from n up' k x
   unfolding line_from
   line_from_agrees zero x = refl
-  line_from_agrees (suc k) x = go (cases_Bool (within n x)) (line_from_agrees k (up x))
-    where
-      go : (within n x ≡ true) ⊎ (within n x ≡ false) → line_from n up k (up x) ≡ line_from n up' k (up x) →
-          cond (within n x) (x ∷ line_from n up k (up x)) [] ≡ cond (within n x) (x ∷ line_from n up' k (up' x)) []
-      go (inl w) rest =
-          let h = within_parts n x w in
-          ap (λ l. cond (within n x) (x ∷ l) [])
-          (rest ∙ ap (line_from n up' k) (same x h.named h.fits))
-      go (inr w) rest = cond-false _ _ _ w ∙ sym (cond-false _ _ _ w)
+  line_from_agrees (suc k) x =
+      elim (cases_Bool (within n x)) [
+        | inl w ↦
+            let h = within_parts n x w in
+            ap (λ l. cond (within n x) (x ∷ l) [])
+            (line_from_agrees k (up x) ∙ ap (line_from n up' k) (same x h.named h.fits))
+        | inr w ↦ cond-false _ _ _ w ∙ sym (cond-false _ _ _ w)
+      ]
 
   pub line_agrees : (x : ℕ) → line n up x ≡ line n up' x
   unfolding line
@@ -61,10 +60,6 @@ module _ (n : ℕ) (up up' : ℕ → ℕ) (same : (v : ℕ) → 1 ≤ v → v �
   pub subtree_agrees : (v : ℕ) → subtree n up v ≡ subtree n up' v
   unfolding subtree
   subtree_agrees v = keep_agrees _ _ (upto n) (λ x o. under_agrees x v)
-
-  pub size_agrees : (v : ℕ) → size n up v ≡ size n up' v
-  unfolding size
-  size_agrees v = ap length (subtree_agrees v)
 
   pub level_agrees : (v : ℕ) → level n up v ≡ level n up' v
   unfolding level

@@ -1,13 +1,14 @@
 -- The counts by meeting vertices: one identity at each vertex and row. Summed over the vertices it counts the row,
 -- summed over the rows the column.
 use Rattle.std.proofs.Common.{◌≡◌, ℕ, ◌+◌, ◌*◌, ◌<◌, ◌≤◌, Bool, true, false, cond, ◌&&◌, ◌||◌, eqb, ltb, ◌⊎◌, List, [], ◌∷◌, length, ℤ, pos, ◌-ℤ◌, sym, refl, ap, ◌∙◌, subst, inl, inr, arith}
-use Rattle.std.proofs.lemmas.Int.{ints}
-use Rattle.std.proofs.lemmas.Bool.{cases_Bool, cases_eq, cases_lt, both_ways, false≢true, or_cases, or_left, or_right, and_parts, and_from, eqb-true, eq-eqb, lt-ltb, ltb-true}
-use Rattle.std.proofs.lemmas.List.{length-append}
+use Rattle.std.specs.List.{list_any}
+use Rattle.std.proofs.lemmas.Bool.{cases_Bool, cases_lt, both_ways, or_cases, or_left, or_right, and_parts, and_from, lt-ltb, ltb-true}
 use Rattle.std.proofs.lemmas.Bool.Decides.{nat_tests}
+use Rattle.std.proofs.lemmas.List.{length-append}
+use Rattle.std.proofs.lemmas.Int.{ints}
 use Rattle.pattern.specs.Lists.{upto, occurs, sum}
 use Rattle.pattern.specs.Patterns.{Pattern, shares}
-use Rattle.pattern.specs.Elimination.{fill, row, col, row_count, col_count, parent}
+use Rattle.pattern.specs.Elimination.{fill, row, col, row_count, col_count, parent, total}
 use Rattle.pattern.specs.Forest.{Grows, under, children, subtree, walk, place}
 use Rattle.pattern.specs.Analysis.{place_of, level_of}
 use Rattle.pattern.specs.Fill.{in_subtree, weight}
@@ -27,30 +28,28 @@ use Rattle.pattern.specs.Counts.{
   ColumnCountsByWeights,
 }
 use Rattle.pattern.proofs.Tests.{Vertex, same_test, eqb_swap}
-use Rattle.pattern.proofs.Lists.{occurs_append, in_upto, in_keep, keep_occurs, sum_append}
-use Rattle.pattern.proofs.Sums.{sum_exchange, count_is_sum}
-use Rattle.pattern.proofs.Lines.{under_self, under_le, under_trans, under_chain, under_of}
+use Rattle.pattern.proofs.Lists.{occurs_append, in_upto, in_keep, keep_occurs, sum_append, occurs_here}
+use Rattle.pattern.proofs.Sums.{sum_plus, sum_exchange, count_is_sum}
+use Rattle.pattern.proofs.Lines.{under_self, under_le, under_trans, under_chain}
 use Rattle.pattern.proofs.Joins.{shares_parts}
 use Rattle.pattern.proofs.Paths.{edge}
-use Rattle.pattern.proofs.Tree.{parents_grow, way_climb}
+use Rattle.pattern.proofs.Tree.{parents_grow, way_lies}
 use Rattle.pattern.proofs.Rows.{fill_touches, touches_fill}
-use Rattle.pattern.proofs.Tallies.{bit, sum_plus, sum_same, sum_zero, sum_keep, sum_at, sum_scale, length_is_sum}
+use Rattle.pattern.proofs.Tallies.{bit, sum_same, sum_zero, sum_keep, sum_at, sum_scale, length_is_sum}
 use Rattle.pattern.proofs.Forest.{
-  depth_more,
-  level_depth,
   level_none,
-  depth_counts,
   under_none,
   under_once,
   under_parts,
-  under_level,
   under_by_children,
   in_children,
+  under_level_le,
+  under_counts,
+  parent_counts,
 }
 use Rattle.pattern.proofs.Places.{block}
 use Rattle.pattern.proofs.Meets.{meet_under, meet_of_both, meet_has_both}
 use Rattle.pattern.proofs.Telescope.{
-  any,
   any_has,
   any_tells,
   unfalling_push,
@@ -80,28 +79,30 @@ module _ (p : Pattern) where
       count_is_sum (λ u. eqb u v || (ltb v u && fill p v u)) (upto p.order)
       ∙ sum_same _ _ (upto p.order) (λ u o. ap (λ t. bit (t || (ltb v u && fill p v u))) (eqb_swap u v))
 
+  -- counted row by row, the factor's places are as many
+  pub counted_by_rows : total p ≡ sum (row_count p) (upto p.order)
+  unfolding total
+  counted_by_rows =
+      sum_same _ _ (upto p.order) (λ v o. column_tests v)
+      ∙ sum_exchange (λ v u. bit (in_row_test v u)) (upto p.order) (upto p.order)
+      ∙ sum_same _ _ (upto p.order) (λ u o. sym (row_tests u))
+
   module _ (u : ℕ) (h : Vertex p.order u) (l : List ℕ) (from : RowFrom p u l) where
     pub stop-cases : (x : ℕ) → occurs x (stops l u) ≡ true → (x ≡ u) ⊎ (occurs x l ≡ true)
     unfolding stops occurs
-    stop-cases x o = go (or_cases _ _ (sym (occurs_append x l (u ∷ [])) ∙ o))
-      where
-        here : (eqb u x ≡ true) ⊎ (false ≡ true) → (x ≡ u) ⊎ (occurs x l ≡ true)
-        here (inl e) = inl (sym (eqb-true u x e))
-        here (inr e) = absurd (false≢true e)
-
-        go : (occurs x l ≡ true) ⊎ ((eqb u x || false) ≡ true) → (x ≡ u) ⊎ (occurs x l ≡ true)
-        go (inl m) = inr m
-        go (inr m) = here (or_cases _ _ m)
+    stop-cases x o =
+        elim (or_cases _ _ (sym (occurs_append x l (u ∷ [])) ∙ o)) [
+          | inl m ↦ inr m
+          | inr m ↦ inl (grind (arith, nat_tests))
+        ]
 
     -- each stop is a vertex in the subtree of u
     stop_under : (x : ℕ) → occurs x (stops l u) ≡ true → in_subtree p x u ≡ true
-    stop_under x o = go (stop-cases x o)
-      where
-        go : (x ≡ u) ⊎ (occurs x l ≡ true) → in_subtree p x u ≡ true
-        go (inl e) = subst (λ y. in_subtree p y u ≡ true) (sym e) (under_self p.order (parent p) grows u h)
-        go (inr m) =
-            let (low, s) = from.lower x m in
-            under_of p.order (parent p) grows (way_climb p u x low (edge x s))
+    stop_under x o =
+        elim (stop-cases x o) [
+          | inl e ↦ subst (λ y. in_subtree p y u ≡ true) (sym e) (under_self p.order (parent p) grows u h)
+          | inr m ↦ let (low, s) = from.lower x m in way_lies p u x low (edge x s)
+        ]
 
     stop_vertex : (x : ℕ) → occurs x (stops l u) ≡ true → Vertex p.order x
     stop_vertex x o = (under_parts p.order (parent p) grows x u (stop_under x o)).0
@@ -118,7 +119,7 @@ module _ (p : Pattern) where
 
     pub at_end : occurs u (stops l u) ≡ true
     unfolding stops occurs
-    at_end = occurs_append u l (u ∷ []) ∙ or_right (occurs u l) _ (or_left _ _ (eq-eqb u u refl))
+    at_end = occurs_append u l (u ∷ []) ∙ or_right (occurs u l) _ (occurs_here u [])
 
     stops_placed : unfalling (place_of p) (stops l u) ≡ true
     unfolding stops
@@ -130,63 +131,49 @@ module _ (p : Pattern) where
 
     -- some stop lies under v just if v is in row u or above u
     pub stops_reach : (v : ℕ) → Vertex p.order v →
-        bit (any (λ x. in_subtree p x v) (stops l u)) ≡ bit (in_row_test v u) + bit (in_subtree p (parent p u) v)
+        bit (list_any (λ x. in_subtree p x v) (stops l u)) ≡ bit (in_row_test v u) + bit (in_subtree p (parent p u) v)
     unfolding in_row_test
-    stops_reach v g = go (cases_Bool (in_subtree p u v))
+    stops_reach v g =
+        let o = under_once n (parent p) grows u v h in
+        let s = eqb_swap v u in
+        elim (cases_Bool (in_subtree p u v)) [
+          | inl above ↦
+              let a = any_has (λ x. in_subtree p x v) (stops l u) u at_end above in
+              let le = under_le n (parent p) grows u v above in
+              grind (arith, nat_tests)
+          | inr off ↦ let same = same_test _ _ (into off) outof in grind (arith, nat_tests)
+        ]
       where
         n : ℕ
         n = p.order
 
-        once : bit (in_subtree p u v) ≡ bit (eqb u v) + bit (in_subtree p (parent p u) v)
-        once = under_once n (parent p) grows u v h
-
-        go : (in_subtree p u v ≡ true) ⊎ (in_subtree p u v ≡ false) →
-            bit (any (λ x. in_subtree p x v) (stops l u))
-            ≡ bit (eqb v u || (ltb v u && fill p v u)) + bit (in_subtree p (parent p u) v)
-        go (inl above) =
-            let a = any_has (λ x. in_subtree p x v) (stops l u) u at_end above in
-            let le = under_le n (parent p) grows u v above in
-            let o = once in
-            let s = eqb_swap v u in
-            grind (arith, nat_tests)
-        go (inr off) =
-            let o = once in
-            let s = eqb_swap v u in
-            let b = ap bit off in
-            let ne : eqb v u ≡ false = grind (arith, nat_tests) in
-            let up : in_subtree p (parent p u) v ≡ false = grind (arith, nat_tests) in
-            let same : any (λ x. in_subtree p x v) (stops l u) ≡ (ltb v u && fill p v u) = same_test _ _ into outof in
-            ap bit same ∙ grind (arith, nat_tests)
-          where
-            into : any (λ x. in_subtree p x v) (stops l u) ≡ true → (ltb v u && fill p v u) ≡ true
-            into a =
-                let (x, o, t) = any_tells (λ x. in_subtree p x v) (stops l u) a in
-                found x o t (under_chain n (parent p) grows x u v (stop_under x o) t)
-              where
-                found : (x : ℕ) → occurs x (stops l u) ≡ true → in_subtree p x v ≡ true →
-                    (in_subtree p u v ≡ true) ⊎ (in_subtree p v u ≡ true) → (ltb v u && fill p v u) ≡ true
-                found x o t (inl above) = absurd (both_ways _ off above)
-                found x o t (inr below) = reach (stop-cases x o) (cases_eq v u)
-                  where
-                    reach : (x ≡ u) ⊎ (occurs x l ≡ true) → (v ≡ u) ⊎ (v ≡ u → ⊥) → (ltb v u && fill p v u) ≡ true
-                    reach (inl e) d = absurd (both_ways _ off (subst (λ y. in_subtree p y v ≡ true) e t))
-                    reach (inr m) (inl e) =
-                        let own = under_self n (parent p) grows u h in
-                        absurd (both_ways _ off (subst (λ y. in_subtree p u y ≡ true) (sym e) own))
-                    reach (inr m) (inr d) =
+        into : in_subtree p u v ≡ false → list_any (λ x. in_subtree p x v) (stops l u) ≡ true →
+            (ltb v u && fill p v u) ≡ true
+        into off a =
+            let (x, o, t) = any_tells (λ x. in_subtree p x v) (stops l u) a in
+            elim (under_chain n (parent p) grows x u v (stop_under x o) t) [
+              | inl above ↦ absurd (both_ways _ off above)
+              | inr below ↦
+                  elim (stop-cases x o) [
+                    | inl e ↦ absurd (both_ways _ off (subst (λ y. in_subtree p y v ≡ true) e t))
+                    | inr m ↦
                         let le = under_le n (parent p) grows v u below in
+                        let apart : v ≡ u → ⊥ = λ e.
+                        both_ways _ off (ap (in_subtree p u) e ∙ under_self n (parent p) grows u h) in
                         let less : v < u = omega arith in
                         and_from _ _ (lt-ltb v u less) (touches_fill p v u x less t (from.lower x m).1)
+                  ]
+            ]
 
-            outof : (ltb v u && fill p v u) ≡ true → any (λ x. in_subtree p x v) (stops l u) ≡ true
-            outof both =
-                let (less, joins) = and_parts _ _ both in
-                let low = ltb-true v u less in
-                let t = fill_touches p v u low joins in
-                let le = under_le n (parent p) grows t.at v t.lies in
-                let (x, o, lies) = from.covers t.at (omega arith) t.entry in
-                any_has (λ x. in_subtree p x v) (stops l u) x (in_list x o)
-                (under_trans n (parent p) grows x t.at v lies t.lies)
+        outof : (ltb v u && fill p v u) ≡ true → list_any (λ x. in_subtree p x v) (stops l u) ≡ true
+        outof both =
+            let (less, joins) = and_parts _ _ both in
+            let low = ltb-true v u less in
+            let t = fill_touches p v u low joins in
+            let le = under_le n (parent p) grows t.at v t.lies in
+            let (x, o, lies) = from.covers t.at (omega arith) t.entry in
+            any_has (λ x. in_subtree p x v) (stops l u) x (in_list x o)
+            (under_trans n (parent p) grows x t.at v lies t.lies)
 
     -- the identity on which the counts rest: stops under v, bends under v, v in row u, v above u
     pub row_at : (v : ℕ) → Vertex p.order v →
@@ -210,10 +197,8 @@ module _ (p : Pattern) where
         sum (λ v. sum (λ x. bit (in_subtree p x v)) xs) (upto p.order) ≡ sum (level_of p) xs + length xs
     by_depth xs all =
         let a = sum_exchange (λ v x. bit (in_subtree p x v)) (upto p.order) xs in
-        let b = sum_same (λ x. sum (λ v. bit (in_subtree p x v)) (upto p.order)) (λ x. level_of p x + 1) xs (λ x o.
-        let c = depth_counts p.order (parent p) grows x (all x o).fits in
-        let d = level_depth p.order (parent p) grows x (all x o) in
-        omega arith) in
+        let b = sum_same (λ x. sum (λ v. bit (in_subtree p x v)) (upto p.order)) (λ x. level_of p x + 1) xs
+        (λ x o. omega (arith, under_counts p.order (parent p) grows x (all x o))) in
         let c = sum_plus (level_of p) (λ _. 1) xs in
         let d = length_is_sum xs in
         omega arith
@@ -229,9 +214,7 @@ module _ (p : Pattern) where
         (λ v. bit (in_subtree p (parent p u) v)) (upto n) in
         let e = sum_plus (λ v. sum (λ m. bit (in_subtree p m v)) (bends p l u)) (λ v. bit (in_row_test v u))
         (upto n) in
-        let f = depth_counts n (parent p) grows (parent p u) (grows.stays u h.named h.fits) in
-        let g = depth_more n (parent p) grows u h in
-        let i = level_depth n (parent p) grows u h in
+        let f = parent_counts n (parent p) grows u h in
         let j = row_tests u in
         let k = length_between (meet_of p) u l in
         let m = length-append l (u ∷ []) in
@@ -239,25 +222,16 @@ module _ (p : Pattern) where
         omega arith
 
     meet_level : (x y : ℕ) → occurs x l ≡ true → level_of p (meet_of p x y) ≤ level_of p x
-    meet_level x y o = go (cases_lt 0 (meet_of p x y))
-      where
-        g : Vertex p.order x
-        g = stop_vertex x (in_list x o)
-
-        down : (x ≡ meet_of p x y) ⊎ (level_of p (meet_of p x y) < level_of p x) →
-            level_of p (meet_of p x y) ≤ level_of p x
-        down (inl e) = let f = ap (level_of p) e in omega arith
-        down (inr less) = omega arith
-
-        go : (0 < meet_of p x y) ⊎ (meet_of p x y ≤ 0) → level_of p (meet_of p x y) ≤ level_of p x
-        go (inl some) =
-            down (under_level p.order (parent p) grows x g.fits (meet_of p x y)
-            (meet_has_both p.order (parent p) grows x y g.fits some).0)
-        go (inr none) =
-            let e : meet_of p x y ≡ 0 = omega arith in
-            let f = ap (level_of p) e in
-            let z = level_none p.order (parent p) grows in
-            omega arith
+    meet_level x y o =
+        let fits = (stop_vertex x (in_list x o)).fits in
+        elim (cases_lt 0 (meet_of p x y)) [
+          | inl some ↦
+              under_level_le p.order (parent p) grows x fits (meet_of p x y)
+              (meet_has_both p.order (parent p) grows x y fits some).0
+          | inr none ↦
+              let e : meet_of p x y ≡ 0 = omega arith in
+              omega (arith, ap (level_of p) e, level_none p.order (parent p) grows)
+        ]
 
     pub row_counted : RowCounted p u l
     unfolding stops bends climb
@@ -308,16 +282,15 @@ module _ (n : ℕ) (up : ℕ → ℕ) (grows : Grows n up) where
   pick v y h =
       sum_keep (λ x. bit (eqb y x)) (λ x. under n up x v) (upto n)
       ∙ sum_same _ (λ x. cond (eqb y x) (bit (under n up x v)) 0) (upto n) (λ x o. grind (arith, nat_tests))
-      ∙ go (cases_lt 0 y)
-    where
-      go : (0 < y) ⊎ (y ≤ 0) → sum (λ x. cond (eqb y x) (bit (under n up x v)) 0) (upto n) ≡ bit (under n up y v)
-      go (inl low) = sum_at n y (λ x. bit (under n up x v)) low h
-      go (inr none) =
-          let e : y ≡ 0 = omega arith in
-          let a = sum_zero (λ x. cond (eqb y x) (bit (under n up x v)) 0) (upto n) (λ x o.
-          let g = (in_upto n x o).named in grind (arith, nat_tests)) in
-          let b = ap bit (ap (λ y. under n up y v) e ∙ under_none n up grows v) in
-          omega arith
+      ∙ elim (cases_lt 0 y) [
+        | inl low ↦ sum_at n y (λ x. bit (under n up x v)) low h
+        | inr none ↦
+            let e : y ≡ 0 = omega arith in
+            let a = sum_zero (λ x. cond (eqb y x) (bit (under n up x v)) 0) (upto n) (λ x o.
+            let g = (in_upto n x o).named in grind (arith, nat_tests)) in
+            let b = ap bit (ap (λ y. under n up y v) e ∙ under_none n up grows v) in
+            omega arith
+      ]
 
   -- how often the vertices of a subtree stand in a list
   times_under : (v : ℕ) (xs : List ℕ) → ((y : ℕ) → occurs y xs ≡ true → y ≤ n) →
@@ -353,10 +326,7 @@ module _ (n : ℕ) (up : ℕ → ℕ) (grows : Grows n up) where
       omega arith
     where
       parted : (t e : Bool) (s k x : ℕ) → (s + bit e) * k ≡ bit t * k → x ≡ s * k → cond t k 0 ≡ x + cond e k 0
-      parted true true s k x a b = omega arith
-      parted true false s k x a b = omega arith
-      parted false true s k x a b = omega arith
-      parted false false s k x a b = omega arith
+      parted t e s k x a b = grind arith
 
       at : (x : ℕ) → cond (under n up x v) (f x) 0
           ≡ sum (λ c. cond (under n up x c) (f x) 0) (children n up v) + cond (eqb v x) (f x) 0
@@ -373,9 +343,7 @@ sum_ℤ_is : (w : ℕ → ℤ) (f g h : ℕ → ℕ) (xs : List ℕ) →
 unfolding sum_ℤ sum occurs
 sum_ℤ_is w f g h [] each = refl
 sum_ℤ_is w f g h (x ∷ xs) each =
-    let i = sum_ℤ_is w f g h xs (λ y o. each y (or_right _ _ o)) in
-    let e = each x (or_left _ _ (eq-eqb x x refl)) in
-    omega (arith, ints)
+    omega (arith, ints, sum_ℤ_is w f g h xs (λ y o. each y (or_right _ _ o)), each x (occurs_here x xs))
 
 -- weights by stops and bends
 module _ (p : Pattern) where

@@ -1,13 +1,14 @@
 -- The tree grown row by row: the laws of crowns, which vertices a row gives their parent, and the tables row by row.
-use Rattle.std.proofs.Common.{◌≡◌, ℕ, zero, suc, ◌+◌, ◌<◌, ◌≤◌, true, false, cond, not, ◌&&◌, eqb, ◌⊎◌, ◌↔◌, sym, refl, ap, ◌∙◌, subst, inl, inr, arith}
-use Rattle.std.proofs.lemmas.Bool.{cases_eq, cases_lt, cond-true, cond-false, eq-eqb, ne_eqb, eqb-true}
+use Rattle.std.proofs.Common.{◌≡◌, ℕ, zero, suc, ◌+◌, ◌<◌, ◌≤◌, true, false, cond, not, ◌&&◌, eqb, ◌⊎◌, sym, refl, ap, ◌∙◌, subst, inl, inr, arith}
+use Rattle.std.proofs.lemmas.Bool.{cases_eq, cases_lt, cond-true, cond-false, eq-eqb, ne_eqb}
 use Rattle.std.proofs.lemmas.Bool.Decides.{nat_tests}
 use Rattle.pattern.specs.Patterns.{Pattern, shares}
-use Rattle.pattern.specs.Elimination.{fill, parent}
+use Rattle.pattern.specs.Elimination.{parent}
 use Rattle.pattern.specs.Forest.{Grows, under}
 use Rattle.pattern.specs.Fill.{in_subtree}
 use Rattle.pattern.specs.Crowns.{crown, crown_of, cut, AfterRows, InRow, Adopts}
-use Rattle.pattern.proofs.Tests.{Vertex, same_test}
+use Rattle.pattern.proofs.Forest.{parent_vertex}
+use Rattle.pattern.proofs.Tests.{Vertex}
 use Rattle.pattern.proofs.Lines.{
   Climb,
   here,
@@ -23,7 +24,7 @@ use Rattle.pattern.proofs.Lines.{
 }
 use Rattle.pattern.proofs.Joins.{shares_parts}
 use Rattle.pattern.proofs.Tree.{IsParent, parent_is, parents_grow, parent_of_joined}
-use Rattle.pattern.proofs.Rows.{Touches, fill_touches, touches_fill}
+use Rattle.pattern.proofs.Rows.{fill_touches, touches_fill}
 
 -- c is the highest of x and its ancestors that is numbered at most u, or x itself
 pub record IsCrown (n : ℕ) (up : ℕ → ℕ) (u x c : ℕ) : Type 0 where
@@ -45,96 +46,66 @@ crown_step up u x = refl
 module _ (n : ℕ) (up : ℕ → ℕ) (grows : Grows n up) where
   -- a parent is 0 or above
   parent_ends : (v : ℕ) → Vertex n v → (up v ≡ 0) ⊎ (v < up v)
-  parent_ends v vv = go (cases_lt 0 (up v))
-    where
-      go : (0 < up v) ⊎ (up v ≤ 0) → (up v ≡ 0) ⊎ (v < up v)
-      go (inl some) = inr (grows.rises v vv.named vv.fits (omega (arith, some)))
-      go (inr none) = inl (omega (arith, none))
+  parent_ends v vv =
+      elim (cases_lt 0 (up v)) [ inl some ↦ inr (grows.rises v vv.named vv.fits some) | inr none ↦ inl (omega arith) ]
 
   pub crown_is : (u x : ℕ) → Vertex n x → IsCrown n up u x (crown up u x)
   crown_is zero x vx =
       subst (IsCrown n up 0 x) (sym (crown_start up x))
-      (record { lies = here vx; low = λ e. e; ends = go (parent_ends x vx); own = λ _. refl })
-    where
-      go : (up x ≡ 0) ⊎ (x < up x) → (up x ≡ 0) ⊎ (0 < up x)
-      go (inl none) = inl none
-      go (inr high) = inr (omega (arith, high))
+      (record {
+        lies = here vx;
+        low = λ e. e;
+        ends = elim (parent_ends x vx) [ inl none ↦ inl none | inr high ↦ inr (omega arith) ];
+        own = λ _. refl;
+      })
   crown_is (suc u) x vx =
-      subst (IsCrown n up (suc u) x) (sym (crown_step up u x)) (go (crown up u x) (crown_is u x vx))
-    where
-      go : (c : ℕ) → IsCrown n up u x c → IsCrown n up (suc u) x (cond (eqb (up c) (suc u)) (suc u) c)
-      go c is = at (cases_eq (up c) (suc u))
-        where
-          at : (up c ≡ suc u) ⊎ (up c ≡ suc u → ⊥) →
-              IsCrown n up (suc u) x (cond (eqb (up c) (suc u)) (suc u) c)
-          at (inl same) =
-              subst (IsCrown n up (suc u) x) (sym (cond-true _ _ _ (eq-eqb _ _ same)))
-              (record {
-                lies = climb;
-                low = λ _. omega arith;
-                ends = parent_ends (suc u) (climb_end climb);
-                own = λ e. omega (arith, e, climb_le grows climb);
-              })
-            where
-              climb : Climb n up (suc u) x
-              climb =
-                  let vc = climb_end is.lies in
-                  let fits = grows.stays c vc.named vc.fits in
-                  subst (λ d. Climb n up d x) same
-                  (climb_up is.lies (record { named = omega (arith, same); fits = fits }))
-          at (inr other) =
-              subst (IsCrown n up (suc u) x) (sym (cond-false _ _ _ (ne_eqb _ _ other)))
-              (record {
-                lies = is.lies;
-                low = λ e. low e (cases_lt u x);
-                ends = high is.ends;
-                own = λ e. is.own (omega (arith, e));
-              })
-            where
-              low : x ≤ suc u → (u < x) ⊎ (x ≤ u) → c ≤ suc u
-              low e (inl above) = omega (arith, e, is.own (omega (arith, above)))
-              low e (inr within) = omega (arith, is.low within)
-
-              high : (up c ≡ 0) ⊎ (u < up c) → (up c ≡ 0) ⊎ (suc u < up c)
-              high (inl none) = inl none
-              high (inr more) = inr (omega (arith, more, other))
+      let c = crown up u x in
+      let is = crown_is u x vx in
+      subst (IsCrown n up (suc u) x) (sym (crown_step up u x))
+      (elim (cases_eq (up c) (suc u)) [
+        | inl same ↦
+            let more = climb_up is.lies (parent_vertex n up grows c (climb_end is.lies) (omega arith)) in
+            let climb : Climb n up (suc u) x = subst (λ d. Climb n up d x) same more in
+            subst (IsCrown n up (suc u) x) (sym (cond-true _ _ _ (eq-eqb _ _ same)))
+            (record {
+              lies = climb;
+              low = λ _. omega arith;
+              ends = parent_ends (suc u) (climb_end climb);
+              own = λ e. omega (arith, climb_le grows climb);
+            })
+        | inr other ↦
+            subst (IsCrown n up (suc u) x) (sym (cond-false _ _ _ (ne_eqb _ _ other)))
+            (record {
+              lies = is.lies;
+              low = λ e. elim (cases_lt u x) [
+                | inl above ↦ omega (arith, is.own (omega arith))
+                | inr within ↦ omega (arith, is.low within)
+              ];
+              ends = elim is.ends [ inl none ↦ inl none | inr more ↦ inr (omega arith) ];
+              own = λ e. is.own (omega arith);
+            })
+      ])
 
   -- there is only one
   crown_meets : (u x : ℕ) {c d : ℕ} → IsCrown n up u x c → IsCrown n up u x d → Climb n up d c → c ≡ d
   crown_meets u x is' is (here vd) = refl
-  crown_meets u x {d = d} is' is (step c vc more) = go (cases_lt u x) is'.ends
-    where
-      go : (u < x) ⊎ (x ≤ u) → (up c ≡ 0) ⊎ (u < up c) → c ≡ d
-      go (inl above) _ = is'.own (omega (arith, above)) ∙ sym (is.own (omega (arith, above)))
-      go (inr within) (inl none) = absurd (omega (arith, none, (climb_start more).named))
-      go (inr within) (inr high) = absurd (omega (arith, high, climb_le grows more, is.low within))
+  crown_meets u x {d = d} is' is (step c vc more) =
+      elim (cases_lt u x) [
+        | inl above ↦ is'.own (omega arith) ∙ sym (is.own (omega arith))
+        | inr within ↦
+            elim is'.ends [
+              | inl none ↦ absurd (omega (arith, (climb_start more).named))
+              | inr high ↦ absurd (omega (arith, climb_le grows more, is.low within))
+            ]
+      ]
 
   pub crown_only : (u x c : ℕ) → IsCrown n up u x c → crown up u x ≡ c
-  crown_only u x c is = go (chain it.lies is.lies)
-    where
-      it : IsCrown n up u x (crown up u x)
-      it = crown_is u x (climb_start is.lies)
-
-      go : Climb n up c (crown up u x) ⊎ Climb n up (crown up u x) c → crown up u x ≡ c
-      go (inl above) = crown_meets u x it is above
-      go (inr under) = sym (crown_meets u x is it under)
-
-  -- the same, by plain facts
-  pub crown_vertex : (u x : ℕ) → 1 ≤ x → x ≤ n → (1 ≤ crown up u x) × (crown up u x ≤ n)
-  crown_vertex u x some fits =
-      let v = climb_end (crown_is u x (record { named = some; fits = fits })).lies in (v.named, v.fits)
-
-  pub crown_under : (u x : ℕ) → 1 ≤ x → x ≤ n → under n up x (crown up u x) ≡ true
-  crown_under u x some fits = under_of n up grows (crown_is u x (record { named = some; fits = fits })).lies
-
-  pub crown_low : (u x : ℕ) → 1 ≤ x → x ≤ n → x ≤ u → crown up u x ≤ u
-  crown_low u x some fits = (crown_is u x (record { named = some; fits = fits })).low
-
-  pub crown_ends : (u x : ℕ) → 1 ≤ x → x ≤ n → (up (crown up u x) ≡ 0) ⊎ (u < up (crown up u x))
-  crown_ends u x some fits = (crown_is u x (record { named = some; fits = fits })).ends
-
-  pub crown_own : (u x : ℕ) → 1 ≤ x → x ≤ n → u ≤ x → crown up u x ≡ x
-  crown_own u x some fits = (crown_is u x (record { named = some; fits = fits })).own
+  crown_only u x c is =
+      let it = crown_is u x (climb_start is.lies) in
+      elim (chain it.lies is.lies) [
+        | inl above ↦ crown_meets u x it is above
+        | inr under ↦ sym (crown_meets u x is it under)
+      ]
 
   -- what has no parent up to u is the crown of all in its subtree
   pub crown_of_under : (u x r : ℕ) → under n up x r ≡ true → r ≤ u → (up r ≡ 0) ⊎ (u < up r) → crown up u x ≡ r
@@ -148,35 +119,13 @@ module _ (n : ℕ) (up : ℕ → ℕ) (grows : Grows n up) where
         own = λ h. omega (arith, h, within, climb_le grows climb);
       })
 
-  pub crown_twice : (u x : ℕ) → 1 ≤ x → x ≤ n → crown up u (crown up u x) ≡ crown up u x
-  crown_twice u x some fits =
-      let is = crown_is u x (record { named = some; fits = fits }) in
-      crown_only u (crown up u x) (crown up u x)
-      (record { lies = here (climb_end is.lies); low = λ e. e; ends = is.ends; own = λ _. refl })
-
-  -- of a vertex r that is its own crown at u: the vertices with that crown are just those of its subtree
-  pub crown_subtree : (u x r : ℕ) → 1 ≤ x → x ≤ n → r ≤ u → crown up u r ≡ r →
-      (under n up x r ≡ true) ↔ (crown up u x ≡ r)
-  crown_subtree u x r some fits within own = (to, from)
-    where
-      from : crown up u x ≡ r → under n up x r ≡ true
-      from e = subst (λ c. under n up x c ≡ true) e (crown_under u x some fits)
-
-      to : under n up x r ≡ true → crown up u x ≡ r
-      to e =
-          let vr = climb_end (climb_of n up x r e) in
-          crown_of_under u x r e within
-          (subst (λ c. (up c ≡ 0) ⊎ (u < up c)) own (crown_ends u r vr.named vr.fits))
-
   -- at last the crown is the root
-  pub crown_root : (x : ℕ) → 1 ≤ x → x ≤ n → up (crown up n x) ≡ 0
-  crown_root x some fits =
-      let (named, within) = crown_vertex n x some fits in
-      go (grows.stays (crown up n x) named within) (crown_ends n x some fits)
-    where
-      go : up (crown up n x) ≤ n → (up (crown up n x) ≡ 0) ⊎ (n < up (crown up n x)) → up (crown up n x) ≡ 0
-      go stays (inl none) = none
-      go stays (inr high) = absurd (omega (arith, stays, high))
+  pub crown_root : (x : ℕ) → Vertex n x → up (crown up n x) ≡ 0
+  crown_root x vx =
+      let is = crown_is n x vx in
+      let vc = climb_end is.lies in
+      let stays = grows.stays (crown up n x) vc.named vc.fits in
+      elim is.ends [ inl none ↦ none | inr high ↦ absurd (omega arith) ]
 
 -- the crowns of a pattern: a row gives its parent to each crown of a lower neighbour, and to no other vertex
 module _ (p : Pattern) where
@@ -184,48 +133,28 @@ module _ (p : Pattern) where
   of_pattern = crown_is p.order (parent p) (parents_grow p)
 
   crown_adopted : (u w x : ℕ) → w ≡ u + 1 → x < w → shares p x w ≡ true → parent p (crown_of p u x) ≡ w
-  crown_adopted u w x next less s = go is.ends
-    where
-      is : IsCrown p.order (parent p) u x (crown_of p u x)
-      is = of_pattern u x (shares_parts p x w s).0.left
-
-      low : crown_of p u x < w
-      low = omega (arith, next, is.low (omega (arith, less, next)))
-
-      joins : fill p (crown_of p u x) w ≡ true
-      joins = touches_fill p (crown_of p u x) w x low (under_of p.order (parent p) (parents_grow p) is.lies) s
-
-      q : IsParent p (crown_of p u x) (parent p (crown_of p u x))
-      q = parent_of_joined p (crown_of p u x) w low joins
-
-      go : (parent p (crown_of p u x) ≡ 0) ⊎ (u < parent p (crown_of p u x)) → parent p (crown_of p u x) ≡ w
-      go (inl none) = absurd (omega (arith, none, q.above))
-      go (inr high) = omega (arith, high, next, q.smallest w low joins)
+  crown_adopted u w x next less s =
+      let c = crown_of p u x in
+      let is = of_pattern u x (shares_parts p x w s).0.left in
+      let low : c < w = omega (arith, is.low (omega arith)) in
+      let joins = touches_fill p c w x low (under_of p.order (parent p) (parents_grow p) is.lies) s in
+      let q = parent_of_joined p c w low joins in
+      elim is.ends [
+        | inl none ↦ absurd (omega (arith, q.above))
+        | inr high ↦ omega (arith, q.smallest w low joins)
+      ]
 
   adopted_crown : (u w r : ℕ) → w ≡ u + 1 → parent p r ≡ w →
       (x : ℕ) × (x < w) × (shares p x w ≡ true) × (crown_of p u x ≡ r)
-  adopted_crown u w r next is = (t.at, less, t.entry, crowned)
-    where
-      q : IsParent p r w
-      q = subst (IsParent p r) is (parent_is p r (omega (arith, is, next)))
-
-      t : Touches p r w
-      t = fill_touches p r w q.above q.joins
-
-      less : t.at < w
-      less = omega (arith, q.above, under_le p.order (parent p) (parents_grow p) t.at r t.lies)
-
-      crowned : crown_of p u t.at ≡ r
-      crowned =
-          crown_of_under p.order (parent p) (parents_grow p) u t.at r t.lies
-          (omega (arith, q.above, next)) (inr (omega (arith, is, next)))
-
-  pub parent_by_crowns : (u w r : ℕ) → w ≡ u + 1 →
-      (parent p r ≡ w) ↔ ((x : ℕ) × (x < w) × (shares p x w ≡ true) × (crown_of p u x ≡ r))
-  parent_by_crowns u w r next = (
-    adopted_crown u w r next,
-    λ t. ap (parent p) (sym t.3) ∙ crown_adopted u w t.0 next t.1 t.2,
-  )
+  adopted_crown u w r next is =
+      let q : IsParent p r w = subst (IsParent p r) is (parent_is p r (omega arith)) in
+      let above = q.above in
+      let t = fill_touches p r w above q.joins in (
+        t.at,
+        omega (arith, under_le p.order (parent p) (parents_grow p) t.at r t.lies),
+        t.entry,
+        crown_of_under p.order (parent p) (parents_grow p) u t.at r t.lies (omega arith) (inr (omega arith)),
+      )
 
 cut_low : (u v : ℕ) → cut u v ≤ u
 unfolding cut
@@ -236,9 +165,9 @@ unfolding cut
 cut_within u v e = grind (arith, nat_tests)
 
 -- a row more makes a difference only to that row's own vertex
-cut_more : (u w v : ℕ) → w ≡ u + 1 → (v ≡ w → ⊥) → cut w v ≡ cut u v
+cut_next : (u w v a : ℕ) → w ≡ u + 1 → a ≡ cond (eqb a w) v (cut u v) → (v ≡ w → a ≡ w) → a ≡ cut w v
 unfolding cut
-cut_more u w v next other = grind (arith, nat_tests)
+cut_next u w v a next before due = grind (arith, nat_tests)
 
 -- x is adopted by find, store and merge: its top is w, and nothing is done; or it is not, and it is put below w
 module _ (n x w : ℕ) (P T P' T' : ℕ → ℕ) where
@@ -274,7 +203,8 @@ step_top d w t a b y z top parent now = grind (arith, nat_tests)
 -- the tables row by row
 module _ (p : Pattern) where
   crown_fits : (u x : ℕ) → 1 ≤ x → x ≤ p.order → (1 ≤ crown_of p u x) × (crown_of p u x ≤ p.order)
-  crown_fits = crown_vertex p.order (parent p) (parents_grow p)
+  crown_fits u x some fits =
+      let v = climb_end (of_pattern p u x (record { named = some; fits = fits })).lies in (v.named, v.fits)
 
   -- no row is done: no parent is known, and each vertex is its own top
   pub rows_start : (P T : ℕ → ℕ) → ((v : ℕ) → 1 ≤ v → v ≤ p.order → P v ≡ 0) →
@@ -324,7 +254,8 @@ module _ (p : Pattern) where
       ((x : ℕ) → x < w → shares p x w ≡ true → T x ≡ w) → AfterRows p w P T
   row_end u w P T in_row adopted =
       record {
-        parents = known;
+        parents = λ v some fits.
+            cut_next u w (parent p v) (P v) in_row.next (in_row.parents v some fits) (due v);
         tops = λ x some fits.
             let c = crown_fits u x some fits in
             in_row.tops x some fits
@@ -337,32 +268,16 @@ module _ (p : Pattern) where
 
       -- a vertex whose parent is w has it by now
       due : (v : ℕ) → parent p v ≡ w → P v ≡ w
-      due v is = go (adopted_crown p u w v in_row.next is)
-        where
-          go : ((x : ℕ) × (x < w) × (shares p x w ≡ true) × (crown_of p u x ≡ v)) → P v ≡ w
-          go (x, less, s, crowned) =
-              let vx = (shares_parts p x w s).0.left in
-              let low = (of_pattern p u x vx).low (omega (arith, less, in_row.next)) in
-              let top = in_row.tops x vx.named vx.fits in
-              ap P (sym crowned) ∙ mark (P (crown_of p u x)) (crown_of p u x) (T x) top low (adopted x less s)
-
-      known : (v : ℕ) → 1 ≤ v → v ≤ p.order → P v ≡ cut w (parent p v)
-      known v some fits = go (cases_eq (P v) w) (cases_eq (parent p v) w)
-        where
-          go : (P v ≡ w) ⊎ (P v ≡ w → ⊥) → (parent p v ≡ w) ⊎ (parent p v ≡ w → ⊥) → P v ≡ cut w (parent p v)
-          go (inl has) _ =
-              let is : P v ≡ parent p v = in_row.parents v some fits ∙ cond-true _ _ _ (eq-eqb _ _ has) in
-              is ∙ sym (cut_within w (parent p v) (omega (arith, is, has)))
-          go (inr none) (inl is) = absurd (none (due v is))
-          go (inr none) (inr other) =
-              in_row.parents v some fits ∙ cond-false _ _ _ (ne_eqb _ _ none)
-              ∙ sym (cut_more u w (parent p v) in_row.next other)
+      due v is =
+          let (x, less, s, crowned) = adopted_crown p u w v in_row.next is in
+          let vx = (shares_parts p x w s).0.left in
+          let low = (of_pattern p u x vx).low (omega (arith, in_row.next)) in
+          let top = in_row.tops x vx.named vx.fits in
+          ap P (sym crowned) ∙ mark (P (crown_of p u x)) (crown_of p u x) (T x) top low (adopted x less s)
 
       same_mark : (v : ℕ) → 1 ≤ v → v ≤ p.order → eqb (P v) w ≡ eqb (parent p v) w
       same_mark v some fits =
-          same_test _ _
-          (λ e. eq-eqb _ _ (sym (in_row.parents v some fits ∙ cond-true _ _ _ e) ∙ eqb-true _ _ e))
-          (λ e. eq-eqb _ _ (due v (eqb-true _ _ e)))
+          let held = in_row.parents v some fits in let own = due v in grind (arith, nat_tests)
 
       crown_next : (x : ℕ) → crown_of p w x ≡ cond (eqb (parent p (crown_of p u x)) w) w (crown_of p u x)
       crown_next x =
@@ -378,27 +293,6 @@ module _ (p : Pattern) where
       let own = (of_pattern p u w vw).own (omega (arith, in_row.next)) in
       let top = in_row.tops w some fits in grind (arith, nat_tests)
 
-  pub row_tops : (u w : ℕ) (P T : ℕ → ℕ) → InRow p u w P T → w ≤ p.order → (x : ℕ) → 1 ≤ x → x < w →
-      (1 ≤ T x) × (T x ≤ w) × (T (T x) ≡ T x)
-  row_tops u w P T in_row fits x some less = go (cases_eq (P (crown_of p u x)) w)
-    where
-      vx : x ≤ p.order
-      vx = omega (arith, less, fits)
-
-      go : (P (crown_of p u x) ≡ w) ⊎ (P (crown_of p u x) ≡ w → ⊥) → (1 ≤ T x) × (T x ≤ w) × (T (T x) ≡ T x)
-      go (inl has) =
-          let top : T x ≡ w = in_row.tops x some vx ∙ cond-true _ _ _ (eq-eqb _ _ has) in
-          (omega (arith, top, in_row.next), omega (arith, top), ap T top ∙ row_top u w P T in_row fits ∙ sym top)
-      go (inr none) =
-          let c = crown_fits u x some vx in
-          let low = (of_pattern p u x (record { named = some; fits = vx })).low (omega (arith, less, in_row.next)) in
-          let twice = crown_twice p.order (parent p) (parents_grow p) u x some vx in
-          let top : T x ≡ crown_of p u x = in_row.tops x some vx ∙ cond-false _ _ _ (ne_eqb _ _ none) in
-          let own : T (crown_of p u x) ≡ crown_of p u x =
-          in_row.tops (crown_of p u x) c.0 c.1
-          ∙ ap (λ d. cond (eqb (P d) w) w d) twice ∙ cond-false _ _ _ (ne_eqb _ _ none) in
-          (omega (arith, top, c.0), omega (arith, top, low, in_row.next), ap T top ∙ own ∙ sym top)
-
   -- all rows are done: the parents are the tree's, and the top of each vertex is its root
   pub rows_end : (P T : ℕ → ℕ) → AfterRows p p.order P T → (v : ℕ) → 1 ≤ v → v ≤ p.order → P v ≡ parent p v
   rows_end P T after v some fits =
@@ -407,6 +301,7 @@ module _ (p : Pattern) where
   pub rows_end_tops : (P T : ℕ → ℕ) → AfterRows p p.order P T → (x : ℕ) → 1 ≤ x → x ≤ p.order →
       (in_subtree p x (T x) ≡ true) × (parent p (T x) ≡ 0)
   rows_end_tops P T after x some fits =
-      let lies = crown_under p.order (parent p) (parents_grow p) p.order x some fits in
-      let ends = crown_root p.order (parent p) (parents_grow p) x some fits in
+      let vx : Vertex p.order x = record { named = some; fits = fits } in
+      let lies = under_of p.order (parent p) (parents_grow p) (of_pattern p p.order x vx).lies in
+      let ends = crown_root p.order (parent p) (parents_grow p) x vx in
       subst (λ t. (in_subtree p x t ≡ true) × (parent p t ≡ 0)) (sym (after.tops x some fits)) (lies, ends)

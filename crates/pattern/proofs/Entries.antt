@@ -1,7 +1,10 @@
 -- Entries by position: in a pattern whose pairs name the lower vertex first, the lower neighbours of a vertex are just
 -- the first vertices of the pairs that end in it.
-use Rattle.std.proofs.Common.{◌≡◌, ℕ, zero, suc, ◌<◌, ◌≤◌, true, ◌&&◌, eqb, ◌⊎◌, List, [], ◌∷◌, length, get_or, sym, refl, inl, inr, arith}
-use Rattle.std.proofs.lemmas.Bool.{or_cases, or_left, or_right, and_parts, and_from, eq-eqb, eqb-true, true≢false}
+use Rattle.std.proofs.Common.{◌≡◌, ℕ, ◌<◌, ◌≤◌, true, eqb, List, length, get_or, refl, arith, ap, ◌∙◌}
+use Rattle.std.proofs.lemmas.Bool.{or_left, and_from, eq-eqb}
+use Rattle.std.proofs.lemmas.Bool.Decides.{nat_tests}
+use Rattle.std.proofs.lemmas.List.{get_or_default}
+use Rattle.std.proofs.lemmas.List.Folds.{list_any_at, Any-from_list_any}
 use Rattle.pattern.specs.Patterns.{Pattern, same_entry, listed, shares}
 use Rattle.pattern.proofs.Joins.{shares_parts, shares_from}
 
@@ -12,21 +15,17 @@ same_itself (a, b) = or_left _ _ (and_from (eqb a a) (eqb b b) (eq-eqb a a refl)
 listed_at : (es : List (ℕ × ℕ)) (k : ℕ) → k < length es →
     listed es (get_or es k (0, 0)).0 (get_or es k (0, 0)).1 ≡ true
 unfolding listed
-listed_at [] k less = absurd (omega (arith, less))
-listed_at (e ∷ es) zero less = or_left _ _ (same_itself e)
-listed_at (e ∷ es) (suc k) less = or_right _ _ (listed_at es k (omega (arith, less)))
+listed_at es k less = list_any_at (same_entry _ _) es k (0, 0) less (same_itself (get_or es k (0, 0)))
 
 at_listed : (es : List (ℕ × ℕ)) (a b : ℕ) → listed es a b ≡ true →
     (k : ℕ) × (k < length es) × (same_entry a b (get_or es k (0, 0)) ≡ true)
 unfolding listed
-at_listed [] a b e = absurd (true≢false (sym e))
-at_listed (x ∷ es) a b e = go (or_cases _ _ e) (at_listed es a b)
-  where
-    go : (same_entry a b x ≡ true) ⊎ (listed es a b ≡ true) →
-        (listed es a b ≡ true → (k : ℕ) × (k < length es) × (same_entry a b (get_or es k (0, 0)) ≡ true)) →
-        (k : ℕ) × (k < length (x ∷ es)) × (same_entry a b (get_or (x ∷ es) k (0, 0)) ≡ true)
-    go (inl same) more = (0, omega arith, same)
-    go (inr later) more = let (k, less, same) = more later in (suc k, omega (arith, less), same)
+at_listed es a b e =
+    let (k, x, less, here, same) = Any-from_list_any (same_entry a b) es e in (
+      k,
+      less,
+      ap (same_entry a b) (get_or_default es k (0, 0) x less ∙ here) ∙ same,
+    )
 
 module _ (p : Pattern) where
   -- the pair at a position is an entry
@@ -49,14 +48,5 @@ module _ (p : Pattern) where
   unfolding same_entry
   shares_entry rises a b less s =
       let (k, fits, same) = at_listed p.entries a b (shares_parts p a b s).1 in
-      let (first, second) = ends (get_or p.entries k (0, 0)) (rises k fits) same in (k, fits, first, second)
-    where
-      ends : (e : ℕ × ℕ) → e.0 < e.1 → same_entry a b e ≡ true → (e.0 ≡ a) × (e.1 ≡ b)
-      ends e rises same = go (or_cases _ _ same)
-        where
-          go : ((eqb e.0 a && eqb e.1 b) ≡ true) ⊎ ((eqb e.0 b && eqb e.1 a) ≡ true) →
-              (e.0 ≡ a) × (e.1 ≡ b)
-          go (inl straight) = let (x, y) = and_parts _ _ straight in (eqb-true _ _ x, eqb-true _ _ y)
-          go (inr turned) =
-              let (x, y) = and_parts (eqb e.0 b) (eqb e.1 a) turned in
-              absurd (omega (arith, rises, less, eqb-true e.0 b x, eqb-true e.1 a y))
+      let up = rises k fits in
+      (k, fits, grind (arith, nat_tests), grind (arith, nat_tests))

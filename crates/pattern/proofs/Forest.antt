@@ -1,16 +1,16 @@
 -- Forests by a parent function: induction from the parents down, levels, and subtrees made up of the children's.
 use Rattle.std.proofs.Common.{◌≡◌, ℕ, zero, suc, ◌+◌, ◌<◌, ◌≤◌, true, false, cond, eqb, ◌⊎◌, [], ◌∷◌, length, sym, ap, ◌∙◌, inl, inr, arith}
-use Rattle.std.proofs.lemmas.Bool.{cases_Bool, cases_eq, cases_lt, and_left, and_from, or_right, and_parts, eqb-true, ne_eqb, cond-true, both_ways}
+use Rattle.std.proofs.lemmas.Bool.{cases_Bool, cases_lt, and_left, and_from, or_right, and_parts, eqb-true, ne_eqb, cond-true, both_ways, false_from_ne_true}
 use Rattle.std.proofs.lemmas.Bool.Decides.{nat_tests}
 use Rattle.pattern.specs.Lists.{upto, sum, occurs}
 use Rattle.pattern.specs.Patterns.{within}
 use Rattle.pattern.specs.Forest.{Grows, line_from, line, under, subtree, level, children}
 use Rattle.pattern.specs.Walks.{size}
 use Rattle.pattern.proofs.Tests.{Vertex, within_from, outside, eqb_swap}
-use Rattle.pattern.proofs.Lists.{in_upto, keep_occurs, sum_grows, length_upto}
-use Rattle.pattern.proofs.Sums.{sum_exchange, count_is_sum}
+use Rattle.pattern.proofs.Lists.{in_upto, keep_occurs}
+use Rattle.pattern.proofs.Sums.{sum_plus, sum_exchange, count_is_sum}
 use Rattle.pattern.proofs.Lines.{enough, climb_of, climb_end, climb_start, under_step, under_self, under_le}
-use Rattle.pattern.proofs.Tallies.{bit, bit_bound, length_is_sum, sum_plus, sum_same, sum_zero, sum_keep, sum_at}
+use Rattle.pattern.proofs.Tallies.{bit, sum_same, sum_zero, sum_keep, sum_at, bits_fit}
 
 -- the length of the line: the level and one more, and 0 at 0
 unfoldable pub depth : ℕ → (ℕ → ℕ) → ℕ → ℕ
@@ -60,25 +60,23 @@ module _ (n : ℕ) (up : ℕ → ℕ) (grows : Grows n up) where
 
   -- x lies under v exactly once: as v itself, or by its parent
   pub under_once : (x v : ℕ) → Vertex n x → bit (under n up x v) ≡ bit (eqb x v) + bit (under n up (up x) v)
-  under_once x v h = go (cases_eq x v) (cases_Bool (under n up (up x) v))
-    where
-      go : (x ≡ v) ⊎ (x ≡ v → ⊥) → (under n up (up x) v ≡ true) ⊎ (under n up (up x) v ≡ false) →
-          bit (under n up x v) ≡ bit (eqb x v) + bit (under n up (up x) v)
-      go (inl e) (inl u) =
-          let p = (under_parts (up x) v u).0 in
-          let r = grows.rises x h.named h.fits p.named in
-          let l = under_le n up grows (up x) v u in
-          absurd (omega arith)
-      go (inl e) (inr u) =
-          let s = under_step n up grows x v in let w = within_from n x h in grind (arith, nat_tests)
-      go (inr e) u =
-          let s = under_step n up grows x v in let w = within_from n x h in grind (arith, nat_tests)
+  under_once x v h =
+      let s = under_step n up grows x v in
+      let w = within_from n x h in
+      let past : x ≡ v → under n up (up x) v ≡ false = λ e. false_from_ne_true _ (λ u.
+      let r = grows.rises x h.named h.fits (under_parts (up x) v u).0.named in
+      let l = under_le n up grows (up x) v u in
+      omega arith) in
+      grind (arith, nat_tests)
+
+  pub parent_vertex : (x : ℕ) → Vertex n x → 1 ≤ up x → Vertex n (up x)
+  parent_vertex x h l = record { named = l; fits = grows.stays x h.named h.fits }
 
   pub under_parent : (x : ℕ) → Vertex n x → 1 ≤ up x → under n up x (up x) ≡ true
   under_parent x h l =
-      let p : Vertex n (up x) = record { named = l; fits = grows.stays x h.named h.fits } in
       under_step n up grows x (up x)
-      ∙ and_from _ _ (within_from n x h) (or_right (eqb x (up x)) _ (under_self n up grows (up x) p))
+      ∙ and_from _ _ (within_from n x h)
+      (or_right (eqb x (up x)) _ (under_self n up grows (up x) (parent_vertex x h l)))
 
   pub depth_none : depth n up 0 ≡ 0
   unfolding depth
@@ -103,54 +101,50 @@ module _ (n : ℕ) (up : ℕ → ℕ) (grows : Grows n up) where
       let d = depth_more x h in
       omega arith)
 
+  -- a vertex lies under as many as its level and one, and its parent under as many as its level
+  pub under_counts : (x : ℕ) → Vertex n x → sum (λ v. bit (under n up x v)) (upto n) ≡ suc (level n up x)
+  under_counts x h = depth_counts x h.fits ∙ sym (level_depth x h)
+
+  pub parent_counts : (x : ℕ) → Vertex n x → sum (λ v. bit (under n up (up x) v)) (upto n) ≡ level n up x
+  parent_counts x h =
+      omega (arith, depth_counts (up x) (grows.stays x h.named h.fits), depth_more x h, level_depth x h)
+
   pub level_none : level n up 0 ≡ 0
   unfolding level depth
   level_none = let d = depth_none in omega arith
 
   pub level_root : (x : ℕ) → Vertex n x → up x ≡ 0 → level n up x ≡ 0
-  level_root x h e =
-      let a = level_depth x h in
-      let b = depth_more x h in
-      let c = ap (depth n up) e in
-      let d = depth_none in
-      omega arith
+  level_root x h e = omega (arith, level_depth x h, depth_more x h, ap (depth n up) e, depth_none)
 
   pub level_child : (x : ℕ) → Vertex n x → 1 ≤ up x → level n up x ≡ level n up (up x) + 1
-  level_child x h l =
-      let p : Vertex n (up x) = record { named = l; fits = grows.stays x h.named h.fits } in
-      let a = level_depth x h in
-      let b = depth_more x h in
-      let c = level_depth (up x) p in
-      omega arith
+  level_child x h l = omega (arith, level_depth x h, depth_more x h, level_depth (up x) (parent_vertex x h l))
 
   -- the vertices of a line rise to at most n, so the level is at most what is left to n
   pub level_bound : (x : ℕ) → x ≤ n → level n up x + x ≤ n
   level_bound = from_parents (λ x. level n up x + x ≤ n)
       (let e = level_none in omega arith)
-      (λ x h i. go x h i (cases_lt 0 (up x)))
-    where
-      go : (x : ℕ) → Vertex n x → level n up (up x) + up x ≤ n → (0 < up x) ⊎ (up x ≤ 0) → level n up x + x ≤ n
-      go x h i (inl more) =
-          let e = level_child x h more in
-          let r = grows.rises x h.named h.fits more in
-          omega arith
-      go x h i (inr none) = let e = level_root x h (omega arith) in let l = h.fits in omega arith
+      (λ x h i.
+      elim (cases_lt 0 (up x)) [
+        | inl more ↦ omega (arith, level_child x h more, grows.rises x h.named h.fits more)
+        | inr none ↦ omega (arith, level_root x h (omega arith), h.fits)
+      ])
 
   -- an ancestor has a smaller level
   pub under_level : (x : ℕ) → x ≤ n → (v : ℕ) → under n up x v ≡ true → (x ≡ v) ⊎ (level n up v < level n up x)
   under_level = from_parents (λ x. (v : ℕ) → under n up x v ≡ true → (x ≡ v) ⊎ (level n up v < level n up x))
       (λ v u. absurd (both_ways _ (under_none v) u))
-      (λ x h i v u. go x h v u (i v) (cases_Bool (under n up (up x) v)))
-    where
-      go : (x : ℕ) → Vertex n x → (v : ℕ) → under n up x v ≡ true →
-          (under n up (up x) v ≡ true → (up x ≡ v) ⊎ (level n up v < level n up (up x))) →
-          (under n up (up x) v ≡ true) ⊎ (under n up (up x) v ≡ false) → (x ≡ v) ⊎ (level n up v < level n up x)
-      go x h v u i (inl t) =
-          let c = level_child x h (under_parts (up x) v t).0.named in
-          let j = i t in
-          let below : level n up v < level n up x = grind arith in
-          inr below
-      go x h v u i (inr t) = let o = under_once x v h in inl (grind (arith, nat_tests))
+      (λ x h i v u.
+      elim (cases_Bool (under n up (up x) v)) [
+        | inl t ↦
+            let c = level_child x h (under_parts (up x) v t).0.named in
+            let j = i v t in
+            inr (grind arith)
+        | inr t ↦ let o = under_once x v h in inl (grind (arith, nat_tests))
+      ])
+
+  pub under_level_le : (x : ℕ) → x ≤ n → (v : ℕ) → under n up x v ≡ true → level n up v ≤ level n up x
+  under_level_le x h v u =
+      elim (under_level x h v u) [ inl e ↦ omega (arith, ap (level n up) e) | inr less ↦ omega arith ]
 
   pub in_children : (c v : ℕ) → occurs c (children n up v) ≡ true → Vertex n c × (up c ≡ v)
   unfolding children
@@ -179,20 +173,19 @@ module _ (n : ℕ) (up : ℕ → ℕ) (grows : Grows n up) where
   -- what lies under v is v itself or lies under exactly one child of v
   pub under_by_children : (v : ℕ) → Vertex n v → (x : ℕ) →
       sum (λ c. bit (under n up x c)) (children n up v) + bit (eqb x v) ≡ bit (under n up x v)
-  under_by_children v l x = go (cases_lt n x)
-    where
-      go : (n < x) ⊎ (x ≤ n) →
-          sum (λ c. bit (under n up x c)) (children n up v) + bit (eqb x v) ≡ bit (under n up x v)
-      go (inl past) =
-          let a = sum_zero _ (children n up v) (λ c o. ap bit (under_past x c past)) in
-          let b = under_past x v past in
-          let c = ne_eqb x v (λ e. let h = l.fits in omega arith) in
-          grind arith
-      go (inr h) = from_parents
-          (λ x. sum (λ c. bit (under n up x c)) (children n up v) + bit (eqb x v) ≡ bit (under n up x v))
-          (let a = no_child v in let b = under_none v in let c = l.named in grind (arith, nat_tests))
-          (λ x h i. let a = by_child v x h in let b = under_once x v h in omega arith)
-          x h
+  under_by_children v l x =
+      elim (cases_lt n x) [
+        | inl past ↦
+            let a = sum_zero (λ c. bit (under n up x c)) (children n up v) (λ c o. ap bit (under_past x c past)) in
+            let b = under_past x v past in
+            let c = ne_eqb x v (λ e. let h = l.fits in omega arith) in
+            grind arith
+        | inr h ↦ from_parents
+            (λ x. sum (λ c. bit (under n up x c)) (children n up v) + bit (eqb x v) ≡ bit (under n up x v))
+            (let a = no_child v in let b = under_none v in let c = l.named in grind (arith, nat_tests))
+            (λ x h i. let a = by_child v x h in let b = under_once x v h in omega arith)
+            x h
+      ]
 
   -- every vertex lies under exactly one root
   pub under_by_roots : (x : ℕ) → x ≤ n → sum (λ c. bit (under n up x c)) (children n up 0) + bit (eqb x 0) ≡ 1
@@ -205,12 +198,7 @@ module _ (n : ℕ) (up : ℕ → ℕ) (grows : Grows n up) where
   size_counts v = count_is_sum (λ x. under n up x v) (upto n)
 
   pub size_bound : (v : ℕ) → size n up v ≤ n
-  size_bound v =
-      let a = size_counts v in
-      let c = sum_grows (λ x. bit (under n up x v)) (λ _. 1) (λ x. bit_bound (under n up x v)) (upto n) in
-      let d = length_is_sum (upto n) in
-      let e = length_upto n in
-      omega arith
+  size_bound v = omega (arith, size_counts v, bits_fit (λ x. under n up x v) n)
 
   pub size_by_children : (v : ℕ) → Vertex n v → size n up v ≡ sum (size n up) (children n up v) + 1
   size_by_children v h =

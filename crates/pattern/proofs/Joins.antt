@@ -1,5 +1,8 @@
 -- What one elimination joins, and the laws of the fill that need nothing else.
-use Rattle.std.proofs.Common.{◌≡◌, ℕ, zero, suc, ◌<◌, ◌≤◌, Bool, true, false, not, ◌&&◌, ◌||◌, eqb, ltb, ◌⊎◌, List, [], ◌∷◌, sym, refl, ◌∙◌, subst, inl, inr, arith}
+use Rattle.std.proofs.Common.{◌≡◌, ℕ, zero, suc, ◌<◌, ◌≤◌, true, ◌&&◌, eqb, ◌⊎◌, List, sym, refl, ◌∙◌, subst, inl, inr, arith, ap}
+use mathlib.Core.Path.{fun_ext}
+use Rattle.std.specs.List.{list_any}
+use Rattle.std.proofs.Math.Bool.{or_comm}
 use Rattle.std.proofs.lemmas.Bool.{cases_eq, or_cases, or_left, or_right, eqb-false, ne_eqb, and_parts, and_from, not-true, not_from_false, ltb-true, lt-ltb}
 use Rattle.pattern.specs.Patterns.{Pattern, same_entry, listed, shares}
 use Rattle.pattern.specs.Elimination.{joined, fill}
@@ -13,18 +16,11 @@ pub record Ends (n a b : ℕ) : Type 0 where
 
 same_entry_sym : (a b : ℕ) (e : ℕ × ℕ) → same_entry a b e ≡ same_entry b a e
 unfolding same_entry
-same_entry_sym a b e = go (eqb e.0 a && eqb e.1 b) (eqb e.0 b && eqb e.1 a)
-  where
-    go : (s t : Bool) → (s || t) ≡ (t || s)
-    go true true = refl
-    go true false = refl
-    go false true = refl
-    go false false = refl
+same_entry_sym a b e = or_comm (eqb e.0 a && eqb e.1 b) (eqb e.0 b && eqb e.1 a)
 
 pub listed_sym : (es : List (ℕ × ℕ)) (a b : ℕ) → listed es a b ≡ listed es b a
 unfolding listed
-listed_sym [] a b = refl
-listed_sym (e ∷ es) a b = mathlib.Core.Path.ap₂ ◌||◌ (same_entry_sym a b e) (listed_sym es a b)
+listed_sym es a b = ap (λ test. list_any test es) (fun_ext (same_entry_sym a b))
 
 module _ (p : Pattern) where
   pub shares_parts : (a b : ℕ) → shares p a b ≡ true → Ends p.order a b × (listed p.entries a b ≡ true)
@@ -63,25 +59,23 @@ module _ (p : Pattern) where
 
   pub joined_parts : (k a b : ℕ) → joined p (suc k) a b ≡ true → (joined p k a b ≡ true) ⊎ Joins k a b
   unfolding joined
-  joined_parts k a b e = go (or_cases _ _ e)
-    where
-      go : (joined p k a b ≡ true) ⊎ (((ltb (suc k) a && ltb (suc k) b)
-          && (not (eqb a b) && (joined p k (suc k) a && joined p k (suc k) b))) ≡ true) →
-          (joined p k a b ≡ true) ⊎ Joins k a b
-      go (inl before) = inl before
-      go (inr now) =
-          let (high, more) = and_parts _ _ now in
-          let (a-high, b-high) = and_parts _ _ high in
-          let (apart, both) = and_parts _ _ more in
-          let (to-a, to-b) = and_parts _ _ both in
-          inr
-          (record {
-            a-above = ltb-true _ _ a-high;
-            b-above = ltb-true _ _ b-high;
-            apart = eqb-false a b (not-true _ apart);
-            at_a = to-a;
-            at_b = to-b;
-          })
+  joined_parts k a b e =
+      elim (or_cases _ _ e) [
+        | inl before ↦ inl before
+        | inr now ↦
+            let (high, more) = and_parts _ _ now in
+            let (a-high, b-high) = and_parts _ _ high in
+            let (apart, both) = and_parts _ _ more in
+            let (to-a, to-b) = and_parts _ _ both in
+            inr
+            (record {
+              a-above = ltb-true _ _ a-high;
+              b-above = ltb-true _ _ b-high;
+              apart = eqb-false a b (not-true _ apart);
+              at_a = to-a;
+              at_b = to-b;
+            })
+      ]
 
   pub joined_before : (k a b : ℕ) → joined p k a b ≡ true → joined p (suc k) a b ≡ true
   unfolding joined
@@ -100,45 +94,24 @@ module _ (p : Pattern) where
 
   pub joined_stays : (k m a b : ℕ) → k ≤ m → joined p k a b ≡ true → joined p m a b ≡ true
   joined_stays k zero a b le e = subst (λ j. joined p j a b ≡ true) (omega arith) e
-  joined_stays k (suc m) a b le e = go (cases_eq k (suc m)) (joined_stays k m a b)
-    where
-      go : (k ≡ suc m) ⊎ (k ≡ suc m → ⊥) → (k ≤ m → joined p k a b ≡ true → joined p m a b ≡ true) →
-          joined p (suc m) a b ≡ true
-      go (inl same) more = subst (λ j. joined p j a b ≡ true) same e
-      go (inr other) more = joined_before m a b (more (omega (arith, le, other)) e)
+  joined_stays k (suc m) a b le e =
+      elim (cases_eq k (suc m)) [
+        | inl same ↦ subst (λ j. joined p j a b ≡ true) same e
+        | inr other ↦ joined_before m a b (joined_stays k m a b (omega arith) e)
+      ]
 
   pub joined_ends : (k a b : ℕ) → joined p k a b ≡ true → Ends p.order a b
   joined_ends zero a b e = (shares_parts a b (joined_start a b ∙ e)).0
-  joined_ends (suc k) a b e = go (joined_ends k a b) (joined_ends k (suc k)) (joined_parts k a b e)
-    where
-      go : (joined p k a b ≡ true → Ends p.order a b) →
-          ((c : ℕ) → joined p k (suc k) c ≡ true → Ends p.order (suc k) c) →
-          (joined p k a b ≡ true) ⊎ Joins k a b → Ends p.order a b
-      go old new (inl before) = old before
-      go old new (inr j) =
-          record { left = (new a j.at_a).right; right = (new b j.at_b).right; apart = j.apart }
-
-  pub joined_sym : (k a b : ℕ) → joined p k a b ≡ true → joined p k b a ≡ true
-  joined_sym zero a b e = sym (joined_start b a) ∙ shares_sym a b (joined_start a b ∙ e)
-  joined_sym (suc k) a b e = go (joined_sym k a b) (joined_parts k a b e)
-    where
-      go : (joined p k a b ≡ true → joined p k b a ≡ true) → (joined p k a b ≡ true) ⊎ Joins k a b →
-          joined p (suc k) b a ≡ true
-      go turn (inl before) = joined_before k b a (turn before)
-      go turn (inr j) =
-          joined_now k b a
-          (record {
-            a-above = j.b-above;
-            b-above = j.a-above;
-            apart = λ s. j.apart (sym s);
-            at_a = j.at_b;
-            at_b = j.at_a;
-          })
+  joined_ends (suc k) a b e =
+      elim (joined_parts k a b e) [
+        | inl before ↦ joined_ends k a b before
+        | inr j ↦ record {
+          left = (joined_ends k (suc k) a j.at_a).right;
+          right = (joined_ends k (suc k) b j.at_b).right;
+          apart = j.apart;
+        }
+      ]
 
   pub fill_ends : (a b : ℕ) → fill p a b ≡ true → Ends p.order a b
   unfolding fill
   fill_ends a b e = joined_ends p.order a b e
-
-  pub fill_sym : (a b : ℕ) → fill p a b ≡ true → fill p b a ≡ true
-  unfolding fill
-  fill_sym a b e = joined_sym p.order a b e

@@ -1,5 +1,5 @@
 -- Lines to the root over any rising parent function: `under` by one parent step, and ancestors as a chain.
-use Rattle.std.proofs.Common.{◌≡◌, ℕ, zero, suc, ◌+◌, ◌<◌, ◌≤◌, Bool, true, false, cond, ◌&&◌, ◌||◌, eqb, ◌⊎◌, [], ◌∷◌, sym, refl, ap, ◌∙◌, subst, inl, inr, arith}
+use Rattle.std.proofs.Common.{◌≡◌, ℕ, zero, suc, ◌+◌, ◌<◌, ◌≤◌, true, cond, ◌&&◌, ◌||◌, eqb, ◌⊎◌, [], ◌∷◌, sym, refl, ap, ◌∙◌, subst, inl, inr, arith}
 use Rattle.std.proofs.lemmas.Bool.{cases_Bool, or_cases, or_left, or_right, eq-eqb, eqb-true, and_from, and_parts, true≢false, cond-false}
 use Rattle.pattern.specs.Lists.{occurs}
 use Rattle.pattern.specs.Patterns.{within}
@@ -15,24 +15,18 @@ module _ (n : ℕ) (up : ℕ → ℕ) where
   line_occurs : (k x v : ℕ) →
       occurs v (line_from n up (suc k) x) ≡ (within n x && (eqb x v || occurs v (line_from n up k (up x))))
   unfolding line_from occurs
-  line_occurs k x v = go (within n x)
-    where
-      go : (w : Bool) → occurs v (cond w (x ∷ line_from n up k (up x)) [])
-          ≡ (w && (eqb x v || occurs v (line_from n up k (up x))))
-      go true = refl
-      go false = refl
+  line_occurs k x v = grind arith
 
   on_line : (k x v : ℕ) → occurs v (line_from n up k x) ≡ true → Climb n up v x
   unfolding line_from occurs
   on_line zero x v e = absurd (true≢false (sym e))
   on_line (suc k) x v e =
       let (w, o) = and_parts _ _ (sym (line_occurs k x v) ∙ e) in
-      go (within_parts n x w) (on_line k (up x) v) (or_cases _ _ o)
-    where
-      go : Vertex n x → (occurs v (line_from n up k (up x)) ≡ true → Climb n up v (up x)) →
-          (eqb x v ≡ true) ⊎ (occurs v (line_from n up k (up x)) ≡ true) → Climb n up v x
-      go vx more (inl same) = subst (λ y. Climb n up y x) (eqb-true x v same) (here vx)
-      go vx more (inr later) = step x vx (more later)
+      let vx = within_parts n x w in
+      elim (or_cases _ _ o) [
+        | inl same ↦ subst (λ y. Climb n up y x) (eqb-true x v same) (here vx)
+        | inr later ↦ step x vx (on_line k (up x) v later)
+      ]
 
   pub climb_of : (x v : ℕ) → under n up x v ≡ true → Climb n up v x
   unfolding under line
@@ -50,20 +44,17 @@ module _ (n : ℕ) (up : ℕ → ℕ) where
   unfolding line_from
   enough grows zero m x h j = sym (ended m x (λ vx. omega (arith, h vx, vx.fits)))
   enough grows (suc k) zero x h j = ended (suc k) x (λ vx. omega (arith, j vx, vx.fits))
-  enough grows (suc k) (suc m) x h j = go (cases_Bool (within n x)) (enough grows k m (up x))
-    where
-      go : (within n x ≡ true) ⊎ (within n x ≡ false) →
-          ((Vertex n (up x) → n < k + up x) → (Vertex n (up x) → n < m + up x) →
-          line_from n up k (up x) ≡ line_from n up m (up x)) →
-          cond (within n x) (x ∷ line_from n up k (up x)) [] ≡ cond (within n x) (x ∷ line_from n up m (up x)) []
-      go (inl w) same =
-          let vx = within_parts n x w in
-          let rises = grows.rises x vx.named vx.fits in
-          ap (λ l. cond (within n x) (x ∷ l) [])
-          (same
-          (λ u. omega (arith, h vx, rises u.named))
-          (λ u. omega (arith, j vx, rises u.named)))
-      go (inr w) same = cond-false _ _ _ w ∙ sym (cond-false _ _ _ w)
+  enough grows (suc k) (suc m) x h j =
+      elim (cases_Bool (within n x)) [
+        | inl w ↦
+            let vx = within_parts n x w in
+            let rises = grows.rises x vx.named vx.fits in
+            ap (λ l. cond (within n x) (x ∷ l) [])
+            (enough grows k m (up x)
+            (λ u. omega (arith, h vx, rises u.named))
+            (λ u. omega (arith, j vx, rises u.named)))
+        | inr w ↦ cond-false _ _ _ w ∙ sym (cond-false _ _ _ w)
+      ]
 
   -- x lies under v: it is a vertex, and it is v or its parent lies under v
   pub under_step : Grows n up → (x v : ℕ) → under n up x v ≡ (within n x && (eqb x v || under n up (up x) v))
@@ -104,11 +95,12 @@ module _ {n : ℕ} {up : ℕ → ℕ} where
   -- the last step up goes from a child of v
   pub last_climb : {v x : ℕ} → Climb n up v x → (x ≡ v) ⊎ ((c : ℕ) × (up c ≡ v) × Climb n up c x)
   last_climb (here vx) = inl refl
-  last_climb {v} (step x vx c) = inr (go (last_climb c))
-    where
-      go : (up x ≡ v) ⊎ ((c : ℕ) × (up c ≡ v) × Climb n up c (up x)) → (c : ℕ) × (up c ≡ v) × Climb n up c x
-      go (inl same) = (x, same, here vx)
-      go (inr (c, is, d)) = (c, is, step x vx d)
+  last_climb {v} (step x vx c) =
+      inr
+      (elim (last_climb c) [
+        | inl same ↦ (x, same, here vx)
+        | inr (c, is, d) ↦ (c, is, step x vx d)
+      ])
 
   pub climb_le : Grows n up → {v x : ℕ} → Climb n up v x → x ≤ v
   climb_le grows (here vx) = omega arith
@@ -131,8 +123,8 @@ module _ (n : ℕ) (up : ℕ → ℕ) (grows : Grows n up) where
   -- what lies under two vertices shows that one of them lies under the other
   pub under_chain : (x v w : ℕ) → under n up x v ≡ true → under n up x w ≡ true →
       (under n up v w ≡ true) ⊎ (under n up w v ≡ true)
-  under_chain x v w e f = go (chain (climb_of n up x v e) (climb_of n up x w f))
-    where
-      go : Climb n up w v ⊎ Climb n up v w → (under n up v w ≡ true) ⊎ (under n up w v ≡ true)
-      go (inl c) = inl (under_of n up grows c)
-      go (inr c) = inr (under_of n up grows c)
+  under_chain x v w e f =
+      elim (chain (climb_of n up x v e) (climb_of n up x w f)) [
+        | inl c ↦ inl (under_of n up grows c)
+        | inr c ↦ inr (under_of n up grows c)
+      ]

@@ -1,62 +1,47 @@
 -- Lists of vertices: what occurs in them, how many pass a test, and the first that passes.
-use Rattle.std.proofs.Common.{◌≡◌, ℕ, zero, suc, ◌+◌, ◌<◌, ◌≤◌, Bool, true, false, cond, ◌&&◌, ◌||◌, eqb, ◌⊎◌, List, [], ◌∷◌, ◌++◌, length, get_or, sym, refl, ap, ◌∙◌, subst, ap₂, inl, inr, arith}
-use Rattle.std.proofs.lemmas.Bool.{cases_Bool, cases_eq, or_cases, or_left, or_right, eq-eqb, eqb-true, and_parts, and_from, true≢false, cond-true, cond-false, both_ways, or_from, ne_eqb}
+use Rattle.std.proofs.Common.{◌≡◌, ℕ, zero, suc, ◌+◌, ◌<◌, ◌≤◌, Bool, true, false, cond, ◌&&◌, ◌||◌, eqb, List, [], ◌∷◌, ◌++◌, length, get_or, sym, refl, ap, ◌∙◌, subst, ap₂, inl, inr, arith}
+use Rattle.std.proofs.lemmas.Bool.{cases_eq, or_cases, or_left, or_right, eq-eqb, eqb-true, and_parts, and_from, cond-true, cond-false, both_ways, or_from, ne_eqb, false≢true, cond_both}
 use Rattle.std.proofs.lemmas.Bool.Decides.{nat_tests}
 use Rattle.std.proofs.lemmas.List.{length-append, append-nil, append_assoc, get_or_append_left, get_or-append-add}
+use Rattle.std.proofs.lemmas.List.Concat.{flat_map-append}
+use Rattle.std.proofs.lemmas.List.Elements.{filter-append}
+use Rattle.std.proofs.lemmas.List.Folds.{list_any-append}
+use Rattle.std.proofs.lemmas.Map.Views.{any-filter_same}
 use Rattle.pattern.specs.Lists.{upto, keep, first, occurs, each, sum}
 use Rattle.pattern.proofs.Tests.{Vertex, vertex_last}
 
+pub occurs_here : (x : ℕ) (xs : List ℕ) → occurs x (x ∷ xs) ≡ true
+unfolding occurs
+occurs_here x xs = or_left _ _ (eq-eqb x x refl)
+
 pub occurs_append : (v : ℕ) (xs ys : List ℕ) → occurs v (xs ++ ys) ≡ (occurs v xs || occurs v ys)
 unfolding occurs
-occurs_append v [] ys = refl
-occurs_append v (x ∷ xs) ys = go (eqb x v) (occurs_append v xs ys)
-  where
-    go : (t : Bool) → occurs v (xs ++ ys) ≡ (occurs v xs || occurs v ys) →
-        (t || occurs v (xs ++ ys)) ≡ ((t || occurs v xs) || occurs v ys)
-    go true same = refl
-    go false same = same
+occurs_append v xs ys = list_any-append (λ x. eqb x v) xs ys
 
 -- of 1 to n occur just the vertices 1 to n
 pub in_upto : (n v : ℕ) → occurs v (upto n) ≡ true → Vertex n v
 unfolding upto occurs
-in_upto zero v e = absurd (true≢false (sym e))
-in_upto (suc n) v e = go (in_upto n v) (or_cases _ _ (sym (occurs_append v (upto n) (suc n ∷ [])) ∙ e))
-  where
-    go : (occurs v (upto n) ≡ true → Vertex n v) →
-        (occurs v (upto n) ≡ true) ⊎ ((eqb (suc n) v || false) ≡ true) → Vertex (suc n) v
-    go less (inl before) = let vx = less before in record { named = vx.named; fits = omega (arith, vx.fits) }
-    go less (inr last) = here (or_cases _ _ last)
-      where
-        here : (eqb (suc n) v ≡ true) ⊎ (false ≡ true) → Vertex (suc n) v
-        here (inl same) =
-            let e = eqb-true (suc n) v same in record { named = omega (arith, e); fits = omega (arith, e) }
-        here (inr odd) = absurd (true≢false (sym odd))
+in_upto zero v e = absurd (false≢true e)
+in_upto (suc n) v e =
+    elim (or_cases _ _ (sym (occurs_append v (upto n) (suc n ∷ [])) ∙ e)) [
+      | inl before ↦ let vx = in_upto n v before in record { named = vx.named; fits = omega arith }
+      | inr last ↦ record { named = grind (arith, nat_tests); fits = grind (arith, nat_tests) }
+    ]
 
 pub upto_has : (n v : ℕ) → Vertex n v → occurs v (upto n) ≡ true
 unfolding upto occurs
-upto_has zero v vx = absurd (omega (arith, vx.named, vx.fits))
-upto_has (suc n) v vx = occurs_append v (upto n) (suc n ∷ []) ∙ go (upto_has n v) (cases_eq (suc n) v)
-  where
-    go : (Vertex n v → occurs v (upto n) ≡ true) → (suc n ≡ v) ⊎ (suc n ≡ v → ⊥) →
-        (occurs v (upto n) || (eqb (suc n) v || false)) ≡ true
-    go less (inl same) = or_right _ _ (or_left _ _ (eq-eqb (suc n) v same))
-    go less (inr other) =
-        or_left _ _ (less (record { named = vx.named; fits = omega (arith, vx.named, vx.fits, other) }))
+upto_has zero v vx = absurd (omega arith)
+upto_has (suc n) v vx =
+    occurs_append v (upto n) (suc n ∷ [])
+    ∙ elim (vertex_last vx) [
+      | inl same ↦ or_right _ _ (or_left _ _ (eq-eqb (suc n) v (sym same)))
+      | inr less ↦ or_left _ _ (upto_has n v less)
+    ]
 
 -- of what is kept occurs just what occurred and passes
 pub keep_occurs : (test : ℕ → Bool) (v : ℕ) (xs : List ℕ) → occurs v (keep test xs) ≡ (test v && occurs v xs)
 unfolding keep occurs
-keep_occurs test v [] = go (test v)
-  where
-    go : (t : Bool) → false ≡ (t && false)
-    go true = refl
-    go false = refl
-keep_occurs test v (x ∷ xs) = go (cases_eq x v) (keep_occurs test v xs)
-  where
-    go : (x ≡ v) ⊎ (x ≡ v → ⊥) → occurs v (keep test xs) ≡ (test v && occurs v xs) →
-        occurs v (cond (test x) (x ∷ keep test xs) (keep test xs)) ≡ (test v && (eqb x v || occurs v xs))
-    go (inl same) more = grind (arith, nat_tests)
-    go (inr other) more = grind (arith, nat_tests)
+keep_occurs test v xs = any-filter_same (λ x. eqb x v) test (test v) (λ x e. ap test (eqb-true x v e)) xs
 
 pub in_keep : (n : ℕ) (test : ℕ → Bool) (v : ℕ) → occurs v (keep test (upto n)) ≡ true → (test v ≡ true) × Vertex n v
 in_keep n test v e =
@@ -68,11 +53,11 @@ keep_has n test v passes vx = keep_occurs test v (upto n) ∙ and_from _ _ passe
 -- o and those that pass two tests: of others, the second test tells
 pub in_own : (n o : ℕ) (s t : ℕ → Bool) (v : ℕ) → (v ≡ o → ⊥) →
     occurs v (keep (λ x. eqb x o || (s x && t x)) (upto n)) ≡ true → t v ≡ true
-in_own n o s t v other e = go (or_cases _ _ (in_keep n _ v e).0)
-  where
-    go : (eqb v o ≡ true) ⊎ ((s v && t v) ≡ true) → t v ≡ true
-    go (inl same) = absurd (other (eqb-true v o same))
-    go (inr both) = (and_parts _ _ both).1
+in_own n o s t v other e =
+    elim (or_cases _ _ (in_keep n _ v e).0) [
+      | inl same ↦ absurd (other (eqb-true v o same))
+      | inr both ↦ (and_parts (s v) (t v) both).1
+    ]
 
 pub own_has : (n o : ℕ) (s t : ℕ → Bool) (v : ℕ) → s v ≡ true → t v ≡ true → Vertex n v →
     occurs v (keep (λ x. eqb x o || (s x && t x)) (upto n)) ≡ true
@@ -80,14 +65,7 @@ own_has n o s t v first second vv = keep_has n _ v (or_right _ _ (and_from _ _ f
 
 pub keep_append : (test : ℕ → Bool) (xs ys : List ℕ) → keep test (xs ++ ys) ≡ keep test xs ++ keep test ys
 unfolding keep
-keep_append test [] ys = refl
-keep_append test (x ∷ xs) ys = go (test x) (keep_append test xs ys)
-  where
-    go : (t : Bool) → keep test (xs ++ ys) ≡ keep test xs ++ keep test ys →
-        cond t (x ∷ keep test (xs ++ ys)) (keep test (xs ++ ys))
-        ≡ cond t (x ∷ keep test xs) (keep test xs) ++ keep test ys
-    go true same = ap (◌∷◌ x) same
-    go false same = same
+keep_append test xs ys = filter-append test xs ys
 
 -- going on to n + 1
 pub keep_next : (test : ℕ → Bool) (n : ℕ) →
@@ -99,50 +77,39 @@ pub keep_none : (test : ℕ → Bool) (xs : List ℕ) → ((x : ℕ) → occurs 
 unfolding keep occurs
 keep_none test [] fails = refl
 keep_none test (x ∷ xs) fails =
-    cond-false _ _ _ (fails x (or_left _ _ (eq-eqb x x refl)))
+    cond-false _ _ _ (fails x (occurs_here x xs))
     ∙ keep_none test xs (λ y o. fails y (or_right _ _ o))
 
 -- v, and others above v: v comes first
 pub keep_own : (test : ℕ → Bool) (v : ℕ) → 1 ≤ v → ((x : ℕ) → x ≤ v → test x ≡ false) →
     (n : ℕ) → v ≤ n → keep (λ x. eqb x v || test x) (upto n) ≡ v ∷ keep test (upto n)
 keep_own test v some fails zero le = absurd (omega arith)
-keep_own test v some fails (suc n) le = go (cases_eq (suc n) v) (keep_own test v some fails n)
+keep_own test v some fails (suc n) le =
+    keep_next own n
+    ∙ elim (cases_eq (suc n) v) [
+      | inl same ↦
+          ap₂ ◌++◌ (keep_none own (upto n) (λ x o. none x (in_upto n x o).fits same))
+          (cond-true _ _ _ (or_left _ _ (eq-eqb (suc n) v same)))
+          ∙ ap₂ ◌∷◌ same
+          (sym (keep_none test (upto (suc n)) (λ x o. fails x (omega (arith, (in_upto (suc n) x o).fits)))))
+      | inr other ↦
+          ap₂ ◌++◌ (keep_own test v some fails n (omega arith))
+          (ap (λ t. cond (t || test (suc n)) (suc n ∷ []) []) (ne_eqb (suc n) v other))
+          ∙ ap (◌∷◌ v) (sym (keep_next test n))
+    ]
   where
     own : ℕ → Bool
     own x = eqb x v || test x
 
-    go : (suc n ≡ v) ⊎ (suc n ≡ v → ⊥) → (v ≤ n → keep own (upto n) ≡ v ∷ keep test (upto n)) →
-        keep own (upto (suc n)) ≡ v ∷ keep test (upto (suc n))
-    go (inl same) more =
-        keep_next own n
-        ∙ ap₂ ◌++◌
-        (keep_none own (upto n)
-        (λ x o.
-        let low = (in_upto n x o).fits in
-        or_from _ _ (ne_eqb x v (λ e. omega (arith, e, low, same))) (fails x (omega (arith, low, same)))))
-        (cond-true _ _ _ (or_left _ _ (eq-eqb (suc n) v same)))
-        ∙ ap (λ x. x ∷ []) same
-        ∙ ap (◌∷◌ v)
-        (sym (keep_none test (upto (suc n)) (λ x o. fails x (omega (arith, (in_upto (suc n) x o).fits, same)))))
-    go (inr other) more =
-        keep_next own n
-        ∙ ap₂ ◌++◌ (more (omega (arith, le, other)))
-        (ap (λ t. cond (t || test (suc n)) (suc n ∷ []) []) (ne_eqb (suc n) v other))
-        ∙ ap (◌∷◌ v) (sym (keep_next test n))
+    none : (x : ℕ) → x ≤ n → suc n ≡ v → own x ≡ false
+    none x low same = or_from _ _ (ne_eqb x v (λ e. omega arith)) (fails x (omega arith))
 
 -- a test that passes more keeps as many or more
 pub keep_grows : (s t : ℕ → Bool) → ((x : ℕ) → s x ≡ true → t x ≡ true) → (xs : List ℕ) →
     length (keep s xs) ≤ length (keep t xs)
 unfolding keep
 keep_grows s t more [] = omega arith
-keep_grows s t more (x ∷ xs) = go (s x) (t x) (more x) (keep_grows s t more xs)
-  where
-    go : (a b : Bool) → (a ≡ true → b ≡ true) → length (keep s xs) ≤ length (keep t xs) →
-        length (cond a (x ∷ keep s xs) (keep s xs)) ≤ length (cond b (x ∷ keep t xs) (keep t xs))
-    go true true f le = omega arith
-    go true false f le = absurd (true≢false (sym (f refl)))
-    go false true f le = omega arith
-    go false false f le = le
+keep_grows s t more (x ∷ xs) = let m = more x in let i = keep_grows s t more xs in grind (arith, nat_tests)
 
 pub sum_grows : (f g : ℕ → ℕ) → ((x : ℕ) → f x ≤ g x) → (xs : List ℕ) → sum f xs ≤ sum g xs
 unfolding sum
@@ -166,21 +133,20 @@ length_upto (suc n) = omega (arith, length-append (upto n) (suc n ∷ []), lengt
 pub get_or_upto : (n i d : ℕ) → i < n → get_or (upto n) i d ≡ suc i
 unfolding upto
 get_or_upto zero i d less = absurd (omega arith)
-get_or_upto (suc n) i d less = go (cases_eq i n) (get_or_upto n i d)
-  where
-    go : (i ≡ n) ⊎ (i ≡ n → ⊥) → (i < n → get_or (upto n) i d ≡ suc i) → get_or (upto n ++ suc n ∷ []) i d ≡ suc i
-    go (inl same) more =
-        ap (λ k. get_or (upto n ++ suc n ∷ []) k d) (omega (arith, same, length_upto n))
-        ∙ get_or-append-add (upto n) (suc n ∷ []) 0 d
-        ∙ ap suc (sym same)
-    go (inr other) more =
-        get_or_append_left (upto n) (suc n ∷ []) d i (omega (arith, less, other, length_upto n))
-        ∙ more (omega (arith, less, other))
+get_or_upto (suc n) i d less =
+    elim (cases_eq i n) [
+      | inl same ↦
+          ap (λ k. get_or (upto n ++ suc n ∷ []) k d) (omega (arith, length_upto n))
+          ∙ get_or-append-add (upto n) (suc n ∷ []) 0 d
+          ∙ ap suc (sym same)
+      | inr other ↦
+          get_or_append_left (upto n) (suc n ∷ []) d i (omega (arith, length_upto n))
+          ∙ get_or_upto n i d (omega arith)
+    ]
 
 pub each_append : (f : ℕ → List ℕ) (xs ys : List ℕ) → each f (xs ++ ys) ≡ each f xs ++ each f ys
 unfolding each
-each_append f [] ys = refl
-each_append f (x ∷ xs) ys = ap (◌++◌ (f x)) (each_append f xs ys) ∙ sym (append_assoc (f x) (each f xs) (each f ys))
+each_append f xs ys = flat_map-append f xs ys
 
 pub each_next : (f : ℕ → List ℕ) (n : ℕ) → each f (upto (suc n)) ≡ each f (upto n) ++ f (suc n)
 unfolding upto each
@@ -190,24 +156,19 @@ each_next f n = each_append f (upto n) (suc n ∷ []) ∙ ap (◌++◌ (each f (
 pub each_cut : (f : ℕ → List ℕ) (v n : ℕ) → v < n →
     (rest : List ℕ) × (each f (upto n) ≡ each f (upto v) ++ (f (suc v) ++ rest))
 each_cut f v zero less = absurd (omega arith)
-each_cut f v (suc n) less = go (cases_eq v n) (each_cut f v n)
-  where
-    go : (v ≡ n) ⊎ (v ≡ n → ⊥) →
-        (v < n → (rest : List ℕ) × (each f (upto n) ≡ each f (upto v) ++ (f (suc v) ++ rest))) →
-        (rest : List ℕ) × (each f (upto (suc n)) ≡ each f (upto v) ++ (f (suc v) ++ rest))
-    go (inl same) more = (
-      [],
-      subst (λ k. each f (upto (suc k)) ≡ each f (upto v) ++ (f (suc v) ++ [])) same
-          (each_next f v ∙ ap (◌++◌ (each f (upto v))) (sym (append-nil (f (suc v))))),
-    )
-    go (inr other) more =
-        let (rest, cut) = more (omega (arith, less, other)) in (
-          rest ++ f (suc n),
-          each_next f n
-              ∙ ap (λ l. l ++ f (suc n)) cut
-              ∙ append_assoc (each f (upto v)) (f (suc v) ++ rest) (f (suc n))
-              ∙ ap (◌++◌ (each f (upto v))) (append_assoc (f (suc v)) rest (f (suc n))),
-        )
+each_cut f v (suc n) less =
+    elim (cases_eq v n) [
+      | inl same ↦ (
+        [],
+        subst (λ k. each f (upto (suc k)) ≡ each f (upto v) ++ (f (suc v) ++ [])) same
+            (each_next f v ∙ ap (◌++◌ (each f (upto v))) (sym (append-nil (f (suc v))))),
+      )
+      | inr other ↦
+          let (rest, cut) = each_cut f v n (omega arith) in (
+            rest ++ f (suc n),
+            each_next f n ∙ ap (λ l. l ++ f (suc n)) cut ∙ simp append_assoc,
+          )
+    ]
 
 -- u is the first of 1 to n that passes, or 0 where none does
 pub data First (n : ℕ) (test : ℕ → Bool) : ℕ → Type 0 where
@@ -217,19 +178,14 @@ pub data First (n : ℕ) (test : ℕ → Bool) : ℕ → Type 0 where
 first_kept : (test : ℕ → Bool) (xs ys : List ℕ) → 1 ≤ first test xs → first test (xs ++ ys) ≡ first test xs
 unfolding first
 first_kept test [] ys some = absurd (omega (arith, some))
-first_kept test (x ∷ xs) ys some = go (test x) some (first_kept test xs ys)
-  where
-    go : (t : Bool) → 1 ≤ cond t x (first test xs) → (1 ≤ first test xs → first test (xs ++ ys) ≡ first test xs) →
-        cond t x (first test (xs ++ ys)) ≡ cond t x (first test xs)
-    go true h more = refl
-    go false h more = more h
+first_kept test (x ∷ xs) ys some = let i = first_kept test xs ys in grind (arith, nat_tests)
 
 first_later : (test : ℕ → Bool) (xs ys : List ℕ) → ((x : ℕ) → occurs x xs ≡ true → test x ≡ false) →
     first test (xs ++ ys) ≡ first test ys
 unfolding first occurs
 first_later test [] ys fail = refl
 first_later test (x ∷ xs) ys fail =
-    cond-false _ _ _ (fail x (or_left _ _ (eq-eqb x x refl)))
+    cond-false _ _ _ (fail x (occurs_here x xs))
     ∙ first_later test xs ys (λ y o. fail y (or_right _ _ o))
 
 pub first_tells : (n : ℕ) (test : ℕ → Bool) → First n test (first test (upto n))
@@ -237,33 +193,22 @@ unfolding upto first
 first_tells zero test = nothing (λ w vx. absurd (omega (arith, vx.named, vx.fits)))
 first_tells (suc n) test = go (first test (upto n)) (first_tells n test) refl
   where
-    last : (test (suc n) ≡ true) ⊎ (test (suc n) ≡ false) → ((w : ℕ) → Vertex n w → test w ≡ false) →
-        First (suc n) test (cond (test (suc n)) (suc n) 0)
-    last (inl passes) none =
-        let here : Vertex (suc n) (suc n) = record { named = omega arith; fits = omega arith } in
-        subst (First (suc n) test) (sym (cond-true _ _ _ passes))
-        (found (suc n) here passes (λ w vw so. only w so (vertex_last vw)))
-      where
-        only : (w : ℕ) → test w ≡ true → (w ≡ suc n) ⊎ Vertex n w → suc n ≤ w
-        only w so (inl same) = omega (arith, same)
-        only w so (inr vw) = absurd (both_ways _ (none w vw) so)
-    last (inr fails) none = subst (First (suc n) test) (sym (cond-false _ _ _ fails))
-        (nothing (λ w vw. fail w (vertex_last vw)))
-      where
-        fail : (w : ℕ) → (w ≡ suc n) ⊎ Vertex n w → test w ≡ false
-        fail w (inl same) = ap test same ∙ fails
-        fail w (inr vw) = none w vw
+    last : ((w : ℕ) → Vertex n w → test w ≡ false) → First (suc n) test (cond (test (suc n)) (suc n) 0)
+    last none =
+        cond_both (test (suc n)) (suc n) 0 (First (suc n) test)
+        (λ passes.
+        found (suc n) (record { named = omega arith; fits = omega arith }) passes
+        (λ w vw so.
+        elim (vertex_last vw) [ inl same ↦ omega arith | inr vw ↦ absurd (both_ways _ (none w vw) so) ]))
+        (λ fails.
+        nothing (λ w vw. elim (vertex_last vw) [ inl same ↦ ap test same ∙ fails | inr vw ↦ none w vw ]))
 
     go : (f : ℕ) → First n test f → first test (upto n) ≡ f → First (suc n) test (first test (upto n ++ suc n ∷ []))
     go f (nothing none) e =
         subst (First (suc n) test) (sym (first_later test (upto n) (suc n ∷ []) (λ x o. none x (in_upto n x o))))
-        (last (cases_Bool (test (suc n))) none)
+        (last none)
     go f (found _ vf passes least) e =
         subst (First (suc n) test)
         (sym (first_kept test (upto n) (suc n ∷ []) (omega (arith, e, vf.named)) ∙ e))
         (found f (record { named = vf.named; fits = omega (arith, vf.fits) }) passes
-        (λ w vw so. below w so (vertex_last vw)))
-      where
-        below : (w : ℕ) → test w ≡ true → (w ≡ suc n) ⊎ Vertex n w → f ≤ w
-        below w so (inl same) = omega (arith, same, vf.fits)
-        below w so (inr vw) = least w vw so
+        (λ w vw so. elim (vertex_last vw) [ inl same ↦ omega (arith, vf.fits) | inr vw ↦ least w vw so ]))

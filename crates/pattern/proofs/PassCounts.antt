@@ -1,6 +1,8 @@
 -- The counts of the pass by place: what a row reaches so far, one identity an event, and the counts at the end.
-use Rattle.std.proofs.Common.{◌≡◌, ℕ, ◌+◌, ◌≤◌, Bool, true, false, cond, ◌&&◌, ◌||◌, eqb, ◌⊎◌, List, [], ◌∷◌, ◌++◌, sym, refl, ap, ◌∙◌, subst, inl, inr, arith}
-use Rattle.std.proofs.lemmas.Bool.{cases_eq, both_ways, false≢true, or_cases, or_left, or_right, and_parts, and_from, and_left, and_right, eqb-true, eq-eqb, ne_eqb}
+use Rattle.std.proofs.Common.{◌≡◌, ℕ, ◌+◌, ◌≤◌, Bool, true, cond, ◌&&◌, ◌||◌, eqb, ◌⊎◌, List, [], ◌∷◌, ◌++◌, sym, refl, ap, ◌∙◌, subst, inl, inr, arith}
+use Rattle.std.specs.List.{list_any}
+use Rattle.std.proofs.lemmas.Bool.{cases_eq, both_ways, or_cases, or_left, or_right, and_parts, and_from, and_left, eqb-true, eq-eqb, ne_eqb, cond_both}
+use Rattle.std.proofs.lemmas.Bool.Decides.{nat_tests}
 use Rattle.pattern.specs.Lists.{upto, occurs, sum}
 use Rattle.pattern.specs.Patterns.{Pattern}
 use Rattle.pattern.specs.Elimination.{row_count, parent}
@@ -9,15 +11,16 @@ use Rattle.pattern.specs.Fill.{in_subtree}
 use Rattle.pattern.specs.Counts.{unfalling, RowFrom, stops}
 use Rattle.pattern.specs.Passes.{happened, last_met, bend_at, row_so_far, Passing, Passed}
 use Rattle.pattern.proofs.Tests.{Vertex, same_test}
-use Rattle.pattern.proofs.Lists.{occurs_append, in_upto, sum_grows, length_upto}
-use Rattle.pattern.proofs.Tallies.{bit, bit_bound, sum_plus, sum_same, length_is_sum}
+use Rattle.pattern.proofs.Lists.{occurs_append, in_upto}
+use Rattle.pattern.proofs.Sums.{sum_plus}
+use Rattle.pattern.proofs.Tallies.{bit, sum_same, bits_fit}
 use Rattle.pattern.proofs.Lines.{under_self, under_trans}
 use Rattle.pattern.proofs.Joins.{shares_parts}
 use Rattle.pattern.proofs.Tree.{parents_grow}
-use Rattle.pattern.proofs.Forest.{depth_more, level_depth, depth_counts, under_parts}
+use Rattle.pattern.proofs.Forest.{under_parts, under_counts, parent_counts}
 use Rattle.pattern.proofs.Places.{block}
 use Rattle.pattern.proofs.Meets.{meet_of_both}
-use Rattle.pattern.proofs.Telescope.{any, any_has, any_tells, unfalling_push}
+use Rattle.pattern.proofs.Telescope.{any_has, any_tells, unfalling_push}
 use Rattle.pattern.proofs.Counting.{in_row_test, row_tests, stop-cases, in_list, at_end, stops_reach}
 use Rattle.pattern.proofs.Passes.{
   happened_none,
@@ -41,14 +44,7 @@ use Rattle.pattern.proofs.Passes.{
 -- b is what x and what was reached before have in common
 balance : (x r b : Bool) → (b ≡ true → x ≡ true) → (b ≡ true → r ≡ true) → (x ≡ true → r ≡ true → b ≡ true) →
     bit (x || r) + bit b ≡ bit r + bit x
-balance true true true f g h = refl
-balance true true false f g h = absurd (false≢true (h refl refl))
-balance true false true f g h = absurd (false≢true (g refl))
-balance true false false f g h = refl
-balance false true true f g h = absurd (false≢true (f refl))
-balance false true false f g h = refl
-balance false false true f g h = absurd (false≢true (f refl))
-balance false false false f g h = refl
+balance x r b f g h = grind arith
 
 -- the lower neighbours of u that were met, from the oldest to the newest
 unfoldable pub met : ℕ → List (ℕ × ℕ) → List ℕ
@@ -58,20 +54,8 @@ met u (e ∷ es) = cond (eqb e.1 u) (met u es ++ e.0 ∷ []) (met u es)
 pub met_occurs : (x u : ℕ) (es : List (ℕ × ℕ)) → occurs x (met u es) ≡ happened x u es
 unfolding met happened occurs
 met_occurs x u [] = refl
-met_occurs x u ((y, w) ∷ es) = go (eqb w u) (met_occurs x u es)
-  where
-    last : (a b : Bool) → (b || (a || false)) ≡ ((a && true) || b)
-    last true true = refl
-    last true false = refl
-    last false true = refl
-    last false false = refl
-
-    go : (t : Bool) → occurs x (met u es) ≡ happened x u es →
-        occurs x (cond t (met u es ++ y ∷ []) (met u es)) ≡ ((eqb y x && t) || happened x u es)
-    go true i =
-        occurs_append x (met u es) (y ∷ []) ∙ ap (λ b. b || (eqb y x || false)) i
-        ∙ last (eqb y x) (happened x u es)
-    go false i = i ∙ ap (λ b. b || happened x u es) (sym (and_right (eqb y x) false refl))
+met_occurs x u ((y, w) ∷ es) =
+    let i = met_occurs x u es in let o = occurs_append x (met u es) (y ∷ []) in grind (arith, nat_tests)
 
 module _ (p : Pattern) where
   -- u, or one met as a lower neighbour of u, lies under v
@@ -92,13 +76,11 @@ module _ (p : Pattern) where
       reaches u v es ≡ true
   unfolding reaches
   reaches_met u v [] y h t = absurd (both_ways _ (happened_none y u) h)
-  reaches_met u v ((x, w) ∷ es) y h t = go (happened_cases x w es y u h) (reaches_met u v es y)
-    where
-      go : ((x ≡ y) × (w ≡ u)) ⊎ (happened y u es ≡ true) →
-          (happened y u es ≡ true → in_subtree p y v ≡ true → reaches u v es ≡ true) →
-          ((eqb w u && in_subtree p x v) || reaches u v es) ≡ true
-      go (inl (e, f)) i = or_left _ _ (and_from _ _ (eq-eqb w u f) (ap (λ z. in_subtree p z v) e ∙ t))
-      go (inr m) i = or_right _ _ (i m t)
+  reaches_met u v ((x, w) ∷ es) y h t =
+      elim (happened_cases x w es y u h) [
+        | inl (e, f) ↦ or_left _ _ (and_from _ _ (eq-eqb w u f) (ap (λ z. in_subtree p z v) e ∙ t))
+        | inr m ↦ or_right _ _ (reaches_met u v es y m t)
+      ]
 
   abbrev Reached : ℕ → ℕ → List (ℕ × ℕ) → Type 0
   Reached u v es =
@@ -107,18 +89,17 @@ module _ (p : Pattern) where
   reaches_tells : (u v : ℕ) (es : List (ℕ × ℕ)) → reaches u v es ≡ true → Reached u v es
   unfolding reaches
   reaches_tells u v [] r = inl r
-  reaches_tells u v ((x, w) ∷ es) r = go (or_cases _ _ r) (reaches_tells u v es)
-    where
-      older : Reached u v es → Reached u v ((x, w) ∷ es)
-      older (inl t) = inl t
-      older (inr (y, h, t)) = inr (y, happened_before x w es y u h, t)
-
-      go : ((eqb w u && in_subtree p x v) ≡ true) ⊎ (reaches u v es ≡ true) →
-          (reaches u v es ≡ true → Reached u v es) → Reached u v ((x, w) ∷ es)
-      go (inl m) i =
-          let (e, t) = and_parts _ _ m in
-          inr (x, subst (λ z. happened x z ((x, w) ∷ es) ≡ true) (eqb-true w u e) (happened_now x w es), t)
-      go (inr m) i = older (i m)
+  reaches_tells u v ((x, w) ∷ es) r =
+      elim (or_cases _ _ r) [
+        | inl m ↦
+            let (e, t) = and_parts _ _ m in
+            inr (x, subst (λ z. happened x z ((x, w) ∷ es) ≡ true) (eqb-true w u e) (happened_now x w es), t)
+        | inr m ↦
+            elim (reaches_tells u v es m) [
+              | inl t ↦ inl t
+              | inr (y, h, t) ↦ inr (y, happened_before x w es y u h, t)
+            ]
+      ]
 
   pub reaches_other : (x u : ℕ) (es : List (ℕ × ℕ)) (w v : ℕ) → (u ≡ w → ⊥) →
       reaches w v ((x, u) ∷ es) ≡ reaches w v es
@@ -180,11 +161,20 @@ module _ (p : Pattern) where
       row_so_far p u es + level_of p u ≡ sum (λ v. bit (reaches u v es)) (upto p.order)
   unfolding reaches
   row_reached u h [] q =
-      let a = row_none p u in
-      let b = depth_counts p.order (parent p) (parents_grow p) u h.fits in
-      let c = level_depth p.order (parent p) (parents_grow p) u h in
-      omega arith
-  row_reached u h ((x, w) ∷ es) q = go (cases_eq w u) (row_reached u h es (passing_older p x w es q))
+      omega (arith, row_none p u, under_counts p.order (parent p) (parents_grow p) u h)
+  row_reached u h ((x, w) ∷ es) q =
+      let i = row_reached u h es (passing_older p x w es q) in
+      elim (cases_eq w u) [
+        | inl e ↦
+            subst (λ w. row_so_far p u ((x, w) ∷ es) + level_of p u
+            ≡ sum (λ v. bit (reaches u v ((x, w) ∷ es))) (upto n)) (sym e)
+            (own (subst (λ w. Passing p ((x, w) ∷ es)) e q) i)
+        | inr d ↦
+            let a = sum_same (λ v. bit (reaches u v ((x, w) ∷ es))) (λ v. bit (reaches u v es)) (upto n)
+            (λ v o. ap bit (reaches_other x w es u v d)) in
+            let b = row_other p x w es u d in
+            omega arith
+      ]
     where
       n : ℕ
       n = p.order
@@ -198,64 +188,28 @@ module _ (p : Pattern) where
           let a = sum_same _ _ (upto n) (λ v o. reaches_more x u es k v) in
           let b = sum_plus (λ v. bit (reaches u v ((x, u) ∷ es))) (λ v. bit (in_subtree p bend v)) (upto n) in
           let c = sum_plus (λ v. bit (reaches u v es)) (λ v. bit (in_subtree p x v)) (upto n) in
-          let d = depth_counts n (parent p) (parents_grow p) bend at.vertex.fits in
-          let e = level_depth n (parent p) (parents_grow p) bend at.vertex in
-          let f = depth_counts n (parent p) (parents_grow p) x new.from.fits in
-          let g = level_depth n (parent p) (parents_grow p) x new.from in
+          let d = under_counts n (parent p) (parents_grow p) bend at.vertex in
+          let f = under_counts n (parent p) (parents_grow p) x new.from in
           let l = at.level in
           let r = row_own p x u es in
-          omega arith
-
-      go : (w ≡ u) ⊎ (w ≡ u → ⊥) →
-          row_so_far p u es + level_of p u ≡ sum (λ v. bit (reaches u v es)) (upto n) →
-          row_so_far p u ((x, w) ∷ es) + level_of p u ≡ sum (λ v. bit (reaches u v ((x, w) ∷ es))) (upto n)
-      go (inl e) i =
-          subst (λ w. row_so_far p u ((x, w) ∷ es) + level_of p u
-          ≡ sum (λ v. bit (reaches u v ((x, w) ∷ es))) (upto n)) (sym e)
-          (own (subst (λ w. Passing p ((x, w) ∷ es)) e q) i)
-      go (inr d) i =
-          let a = sum_same (λ v. bit (reaches u v ((x, w) ∷ es))) (λ v. bit (reaches u v es)) (upto n)
-          (λ v o. ap bit (reaches_other x w es u v d)) in
-          let b = row_other p x w es u d in
           omega arith
 
   -- the row so far never has more than n vertices
   pub row_fits : (u : ℕ) → 1 ≤ u → u ≤ p.order → (es : List (ℕ × ℕ)) → Passing p es →
       row_so_far p u es + level_of p u ≤ p.order
   row_fits u low high es q =
-      let n = p.order in
-      let a = row_reached u (record { named = low; fits = high }) es q in
-      let b = sum_grows (λ v. bit (reaches u v es)) (λ _. 1) (λ v. bit_bound (reaches u v es)) (upto n) in
-      let c = length_is_sum (upto n) in
-      let d = length_upto n in
-      omega arith
-
-  -- and only grows
-  pub row_grows : (u : ℕ) (newer older : List (ℕ × ℕ)) → row_so_far p u older ≤ row_so_far p u (newer ++ older)
-  row_grows u [] older = omega arith
-  row_grows u ((x, w) ∷ newer) older = go (cases_eq w u) (row_grows u newer older)
-    where
-      all : List (ℕ × ℕ)
-      all = newer ++ older
-
-      go : (w ≡ u) ⊎ (w ≡ u → ⊥) → row_so_far p u older ≤ row_so_far p u all →
-          row_so_far p u older ≤ row_so_far p u ((x, w) ∷ all)
-      go (inl e) i =
-          let a = row_own p x u all in
-          subst (λ w. row_so_far p u older ≤ row_so_far p u ((x, w) ∷ all)) (sym e) (omega arith)
-      go (inr d) i = let a = row_other p x w all u d in omega arith
+      omega (arith, row_reached u (record { named = low; fits = high }) es q, bits_fit (λ v. reaches u v es) p.order)
 
   -- the events of u, from the oldest to the newest, serve row u
   met_placed : (u : ℕ) (es : List (ℕ × ℕ)) → Passing p es → unfalling (place_of p) (met u es) ≡ true
   unfolding met unfalling
   met_placed u [] q = refl
-  met_placed u ((x, w) ∷ es) q = go (eqb w u) (met_placed u es (passing_older p x w es q))
-    where
-      go : (t : Bool) → unfalling (place_of p) (met u es) ≡ true →
-          unfalling (place_of p) (cond t (met u es ++ x ∷ []) (met u es)) ≡ true
-      go true i = unfalling_push (place_of p) x (met u es) i
-          (λ y o. older_placed p x w es q y u (sym (met_occurs y u es) ∙ o))
-      go false i = i
+  met_placed u ((x, w) ∷ es) q =
+      let i = met_placed u es (passing_older p x w es q) in
+      cond_both (eqb w u) (met u es ++ x ∷ []) (met u es) (λ xs. unfalling (place_of p) xs ≡ true)
+      (λ _. unfalling_push (place_of p) x (met u es) i
+      (λ y o. older_placed p x w es q y u (sym (met_occurs y u es) ∙ o)))
+      (λ _. i)
 
   pub row_from_met : (es : List (ℕ × ℕ)) → Passed p es → (u : ℕ) → RowFrom p u (met u es)
   row_from_met es q u = record {
@@ -277,24 +231,23 @@ module _ (p : Pattern) where
       from = row_from_met es q u
 
       has : (y : ℕ) → occurs y (stops (met u es) u) ≡ true → in_subtree p y v ≡ true →
-          any (λ x. in_subtree p x v) (stops (met u es) u) ≡ true
+          list_any (λ x. in_subtree p x v) (stops (met u es) u) ≡ true
       has = any_has (λ x. in_subtree p x v) (stops (met u es) u)
 
-      into : reaches u v es ≡ true → any (λ x. in_subtree p x v) (stops (met u es) u) ≡ true
-      into r = go (reaches_tells u v es r)
-        where
-          go : Reached u v es → any (λ x. in_subtree p x v) (stops (met u es) u) ≡ true
-          go (inl own) = has u (at_end p u h (met u es) from) own
-          go (inr (y, k, t)) = has y (in_list p u h (met u es) from y (met_occurs y u es ∙ k)) t
+      into : reaches u v es ≡ true → list_any (λ x. in_subtree p x v) (stops (met u es) u) ≡ true
+      into r =
+          elim (reaches_tells u v es r) [
+            | inl own ↦ has u (at_end p u h (met u es) from) own
+            | inr (y, k, t) ↦ has y (in_list p u h (met u es) from y (met_occurs y u es ∙ k)) t
+          ]
 
-      outof : any (λ x. in_subtree p x v) (stops (met u es) u) ≡ true → reaches u v es ≡ true
+      outof : list_any (λ x. in_subtree p x v) (stops (met u es) u) ≡ true → reaches u v es ≡ true
       outof a =
           let (y, o, t) = any_tells (λ x. in_subtree p x v) (stops (met u es) u) a in
-          go y t (stop-cases p u h (met u es) from y o)
-        where
-          go : (y : ℕ) → in_subtree p y v ≡ true → (y ≡ u) ⊎ (occurs y (met u es) ≡ true) → reaches u v es ≡ true
-          go y t (inl e) = reaches_own u v es (subst (λ z. in_subtree p z v ≡ true) e t)
-          go y t (inr m) = reaches_met u v es y (sym (met_occurs y u es) ∙ m) t
+          elim (stop-cases p u h (met u es) from y o) [
+            | inl e ↦ reaches_own u v es (subst (λ z. in_subtree p z v ≡ true) e t)
+            | inr m ↦ reaches_met u v es y (sym (met_occurs y u es) ∙ m) t
+          ]
 
   -- at the end the rows are counted
   pub row_passed : (es : List (ℕ × ℕ)) → Passed p es → (u : ℕ) → 1 ≤ u → u ≤ p.order →
@@ -306,15 +259,5 @@ module _ (p : Pattern) where
       let b = sum_same _ _ (upto n) (λ v o. reached es q u v h (in_upto n v o)) in
       let c = sum_plus (λ v. bit (in_row_test p v u)) (λ v. bit (in_subtree p (parent p u) v)) (upto n) in
       let d = row_tests p u in
-      let e = depth_counts n (parent p) (parents_grow p) (parent p u) ((parents_grow p).stays u low high) in
-      let f = depth_more n (parent p) (parents_grow p) u h in
-      let g = level_depth n (parent p) (parents_grow p) u h in
-      omega arith
-
-  -- every row so far is at most the whole row
-  pub row_part : (newer older : List (ℕ × ℕ)) → Passed p (newer ++ older) → (u : ℕ) → 1 ≤ u → u ≤ p.order →
-      row_so_far p u older ≤ row_count p u
-  row_part newer older q u low high =
-      let a = row_grows u newer older in
-      let b = row_passed (newer ++ older) q u low high in
+      let e = parent_counts n (parent p) (parents_grow p) u h in
       omega arith

@@ -1,20 +1,20 @@
--- The weights of the pass by place: how far they can go, and that at the end they are the weights of the pattern.
-use Rattle.std.proofs.Common.{◌≡◌, ℕ, ◌+◌, ◌≤◌, Bool, true, false, cond, eqb, ◌⊎◌, List, [], ◌∷◌, length, ℤ, pos, negsuc, ◌-ℤ◌, neg_ℤ, ◌≤ℤ◌, sym, refl, ap, ◌∙◌, inl, inr, arith}
-use lib.Signed.{mag}
+-- The weights of the pass by place: at the end they are the weights of the pattern.
+use Rattle.std.proofs.Common.{◌≡◌, ℕ, ◌+◌, ◌≤◌, true, cond, eqb, List, [], ◌∷◌, ℤ, pos, ◌-ℤ◌, sym, refl, ap, ◌∙◌, arith}
+use Rattle.std.proofs.lemmas.Bool.{or_right}
+use Rattle.std.proofs.lemmas.Bool.Decides.{nat_tests}
 use Rattle.std.proofs.lemmas.Int.{ints}
-use Rattle.std.proofs.lemmas.Bool.{cases_eq, or_left, or_right, cond-true, cond-false, eq-eqb, ne_eqb}
 use Rattle.pattern.specs.Lists.{upto, occurs, sum}
 use Rattle.pattern.specs.Patterns.{Pattern}
 use Rattle.pattern.specs.Elimination.{col_count, parent}
-use Rattle.pattern.specs.Forest.{subtree, children}
+use Rattle.pattern.specs.Forest.{subtree}
 use Rattle.pattern.specs.Fill.{in_subtree, weight}
 use Rattle.pattern.specs.Walks.{size}
 use Rattle.pattern.specs.Counts.{lower_neighbours, sum_ℤ}
 use Rattle.pattern.specs.Passes.{bend_at, one_if, weight_so_far, Passing, Passed}
-use Rattle.pattern.proofs.Tests.{Vertex, eqb_swap}
-use Rattle.pattern.proofs.Lists.{in_upto, in_keep, sum_grows, length_upto}
-use Rattle.pattern.proofs.Sums.{count_is_sum}
-use Rattle.pattern.proofs.Tallies.{bit, bit_bound, sum_plus, sum_same, sum_zero, sum_at, length_is_sum}
+use Rattle.pattern.proofs.Tests.{Vertex}
+use Rattle.pattern.proofs.Lists.{in_upto, in_keep, occurs_here}
+use Rattle.pattern.proofs.Sums.{sum_plus}
+use Rattle.pattern.proofs.Tallies.{bit, sum_same, sum_zero, sum_at, length_is_sum}
 use Rattle.pattern.proofs.Tree.{parents_grow}
 use Rattle.pattern.proofs.Forest.{size_counts}
 use Rattle.pattern.proofs.Counting.{
@@ -33,23 +33,13 @@ use Rattle.pattern.proofs.PassCounts.{reaches, reaches_none, reaches_other, reac
 
 one_is : (v x : ℕ) → one_if v x ≡ pos (bit (eqb x v))
 unfolding one_if
-one_is v x = ap (λ t. cond t (pos 1) (pos 0)) (eqb_swap v x) ∙ go (eqb x v)
-  where
-    go : (t : Bool) → cond t (pos 1) (pos 0) ≡ pos (bit t)
-    go true = refl
-    go false = refl
+one_is v x = grind (arith, nat_tests)
 
 sum_ℤ_same : (f g : ℕ → ℤ) (xs : List ℕ) → ((x : ℕ) → occurs x xs ≡ true → f x ≡ g x) → sum_ℤ f xs ≡ sum_ℤ g xs
 unfolding sum_ℤ occurs
 sum_ℤ_same f g [] same = refl
 sum_ℤ_same f g (x ∷ xs) same =
-    let a = same x (or_left _ _ (eq-eqb x x refl)) in
-    let i = sum_ℤ_same f g xs (λ y o. same y (or_right _ _ o)) in
-    omega (arith, ints)
-
-mag_bound : (z : ℤ) (k : ℕ) → neg_ℤ (pos k) ≤ℤ z → z ≤ℤ pos k → mag z ≤ k
-mag_bound (pos n) k low high = omega (arith, ints)
-mag_bound (negsuc n) k low high = omega (arith, ints)
+    omega (arith, ints, same x (occurs_here x xs), sum_ℤ_same f g xs (λ y o. same y (or_right _ _ o)))
 
 -- how often v was a stop: of its own row, and at each event at v
 unfoldable stops_at : ℕ → List (ℕ × ℕ) → ℕ
@@ -67,52 +57,7 @@ module _ (p : Pattern) where
   unfolding stops_at bends_at born
   weight_counts v [] = let a = weight_none p v in omega (arith, ints)
   weight_counts v ((x, u) ∷ es) =
-      let i = weight_counts v es in
-      let a = weight_more p x u es v in
-      let b = one_is v x in
-      let c = one_is v (bend_at p x u es) in
-      omega (arith, ints)
-
-  stops_fit : (v : ℕ) (es : List (ℕ × ℕ)) → stops_at v es ≤ 1 + length es
-  unfolding stops_at
-  stops_fit v [] = omega arith
-  stops_fit v ((x, u) ∷ es) = let i = stops_fit v es in let b = bit_bound (eqb x v) in omega arith
-
-  bends_fit : (v : ℕ) (es : List (ℕ × ℕ)) → bends_at v es ≤ length es
-  unfolding bends_at
-  bends_fit v [] = omega arith
-  bends_fit v ((x, u) ∷ es) =
-      let i = bends_fit v es in let b = bit_bound (eqb (bend_at p x u es) v) in omega arith
-
-  born_fit : (v : ℕ) → born p v ≤ p.order
-  unfolding born children
-  born_fit v =
-      let n = p.order in
-      let a = count_is_sum (λ c. eqb (parent p c) v) (upto n) in
-      let b = sum_grows (λ c. bit (eqb (parent p c) v)) (λ _. 1) (λ c. bit_bound (eqb (parent p c) v)) (upto n) in
-      let c = length_is_sum (upto n) in
-      let d = length_upto n in
-      omega arith
-
-  -- no weight goes further than the vertices and the events let it
-  pub weight_low : (v : ℕ) (es : List (ℕ × ℕ)) → neg_ℤ (pos (p.order + length es)) ≤ℤ weight_so_far p v es
-  weight_low v es =
-      let a = weight_counts v es in
-      let b = bends_fit v es in
-      let c = born_fit v in
-      omega (arith, ints)
-
-  pub weight_high : (v : ℕ) (es : List (ℕ × ℕ)) → weight_so_far p v es ≤ℤ pos (1 + length es)
-  weight_high v es =
-      let a = weight_counts v es in
-      let b = stops_fit v es in
-      omega (arith, ints)
-
-  pub weight_mag : (v : ℕ) (es : List (ℕ × ℕ)) → mag (weight_so_far p v es) ≤ 1 + p.order + length es
-  weight_mag v es =
-      let a = weight_low v es in
-      let b = weight_high v es in
-      mag_bound (weight_so_far p v es) (1 + p.order + length es) (omega (arith, ints)) (omega (arith, ints))
+      omega (arith, ints, weight_counts v es, weight_more p x u es v, one_is v x, one_is v (bend_at p x u es))
 
   -- the stops under v are the bends under v and the rows that reach v
   stops_and_bends : (v : ℕ) (es : List (ℕ × ℕ)) → Passing p es →
@@ -137,7 +82,7 @@ module _ (p : Pattern) where
       let over = bit (in_subtree p bend v) in
       let under = bit (in_subtree p x v) in
       let a = sum_same (λ w. bit (reaches p w v ((x, u) ∷ es)) + at over w)
-      (λ w. bit (reaches p w v es) + at under w) (upto n) (λ w o. row w (cases_eq u w)) in
+      (λ w. bit (reaches p w v es) + at under w) (upto n) (λ w o. row w) in
       let b = sum_plus (λ w. bit (reaches p w v ((x, u) ∷ es))) (at over) (upto n) in
       let c = sum_plus (λ w. bit (reaches p w v es)) (at under) (upto n) in
       let d = sum_at n u (λ _. over) new.to.named new.to.fits in
@@ -148,21 +93,10 @@ module _ (p : Pattern) where
       let k = pick n (parent p) g v x new.from.fits in
       omega arith
     where
-      row : (w : ℕ) → (u ≡ w) ⊎ (u ≡ w → ⊥) →
-          bit (reaches p w v ((x, u) ∷ es)) + cond (eqb u w) (bit (in_subtree p (bend_at p x u es) v)) 0
+      row : (w : ℕ) → bit (reaches p w v ((x, u) ∷ es)) + cond (eqb u w) (bit (in_subtree p (bend_at p x u es) v)) 0
           ≡ bit (reaches p w v es) + cond (eqb u w) (bit (in_subtree p x v)) 0
-      row w (inl e) =
-          let a = cond-true (eqb u w) (bit (in_subtree p (bend_at p x u es) v)) 0 (eq-eqb u w e) in
-          let b = cond-true (eqb u w) (bit (in_subtree p x v)) 0 (eq-eqb u w e) in
-          let c = reaches_more p x u es q v in
-          let d = ap (λ w. bit (reaches p w v ((x, u) ∷ es))) e in
-          let f = ap (λ w. bit (reaches p w v es)) e in
-          omega arith
-      row w (inr d) =
-          let a = cond-false (eqb u w) (bit (in_subtree p (bend_at p x u es) v)) 0 (ne_eqb u w d) in
-          let b = cond-false (eqb u w) (bit (in_subtree p x v)) 0 (ne_eqb u w d) in
-          let c = ap bit (reaches_other p x u es w v d) in
-          omega arith
+      row w =
+          grind (arith, nat_tests, reaches_more p x u es q v, reaches_other p x u es w v)
 
   module _ (es : List (ℕ × ℕ)) (q : Passed p es) where
     column_at : (v : ℕ) → Vertex p.order v →

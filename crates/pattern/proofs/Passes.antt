@@ -1,6 +1,7 @@
 -- The pass by place: what one event more changes, what was met last, and where the path from a new one joins its row.
-use Rattle.std.proofs.Common.{◌≡◌, ℕ, suc, ◌+◌, ◌-◌, ◌<◌, ◌≤◌, true, false, cond, ◌&&◌, ◌||◌, eqb, leb, ◌⊎◌, List, [], ◌∷◌, ◌++◌, length, pos, ◌+ℤ◌, ◌-ℤ◌, sym, refl, ap, ◌∙◌, subst, inl, inr, arith}
+use Rattle.std.proofs.Common.{◌≡◌, ℕ, suc, ◌+◌, ◌-◌, ◌<◌, ◌≤◌, true, false, cond, ◌&&◌, ◌||◌, eqb, ◌⊎◌, List, [], ◌∷◌, length, pos, ◌+ℤ◌, ◌-ℤ◌, sym, refl, ap, ◌∙◌, subst, inl, inr, arith}
 use Rattle.std.proofs.lemmas.Bool.{cases_eq, cases_lt, both_ways, or_cases, or_left, or_right, or_from, and_parts, and_from, and_right, cond-true, cond-false, eqb-true, eq-eqb, ne_eqb, leb-true, le-leb}
+use Rattle.std.proofs.lemmas.Bool.Decides.{nat_tests}
 use Rattle.pattern.specs.Patterns.{Pattern, shares}
 use Rattle.pattern.specs.Elimination.{parent}
 use Rattle.pattern.specs.Forest.{children}
@@ -20,11 +21,11 @@ use Rattle.pattern.specs.Passes.{
   Passed,
 }
 use Rattle.pattern.proofs.Tests.{Vertex}
-use Rattle.pattern.proofs.Lines.{under_of, under_self}
+use Rattle.pattern.proofs.Lines.{under_self}
 use Rattle.pattern.proofs.Joins.{shares_parts}
 use Rattle.pattern.proofs.Paths.{edge}
-use Rattle.pattern.proofs.Tree.{parents_grow, way_climb}
-use Rattle.pattern.proofs.Forest.{under_parts, under_level}
+use Rattle.pattern.proofs.Tree.{parents_grow, way_lies}
+use Rattle.pattern.proofs.Forest.{under_parts, under_level_le}
 use Rattle.pattern.proofs.Places.{place_bounds, place_apart}
 use Rattle.pattern.proofs.Meets.{meet_of_both, meet_has_both}
 use Rattle.pattern.proofs.Tops.{top_meets}
@@ -51,12 +52,11 @@ happened_before x u es y w h = or_right _ _ h
 pub happened_cases : (x u : ℕ) (es : List (ℕ × ℕ)) (y w : ℕ) → happened y w ((x, u) ∷ es) ≡ true →
     ((x ≡ y) × (u ≡ w)) ⊎ (happened y w es ≡ true)
 unfolding happened
-happened_cases x u es y w h = go (or_cases _ _ h)
-  where
-    go : ((eqb x y && eqb u w) ≡ true) ⊎ (happened y w es ≡ true) →
-        ((x ≡ y) × (u ≡ w)) ⊎ (happened y w es ≡ true)
-    go (inl m) = let (a, b) = and_parts _ _ m in inl (eqb-true x y a, eqb-true u w b)
-    go (inr m) = inr m
+happened_cases x u es y w h =
+    elim (or_cases _ _ h) [
+      | inl m ↦ let (a, b) = and_parts _ _ m in inl (eqb-true x y a, eqb-true u w b)
+      | inr m ↦ inr m
+    ]
 
 pub last_none : (w : ℕ) → last_met w [] ≡ 0
 unfolding last_met
@@ -68,11 +68,6 @@ unfolding last_met
 last_more x u es w = refl
 
 module _ (p : Pattern) where
-  pub bend_is : (x u : ℕ) (es : List (ℕ × ℕ)) →
-      bend_at p x u es ≡ cond (eqb (last_met u es) 0) u (meet_of p (last_met u es) x)
-  unfolding bend_at
-  bend_is x u es = refl
-
   -- the first of row u joins it at u
   pub bend_first : (x u : ℕ) (es : List (ℕ × ℕ)) → last_met u es ≡ 0 → bend_at p x u es ≡ u
   unfolding bend_at
@@ -90,14 +85,7 @@ module _ (p : Pattern) where
       row_so_far p w ((x, u) ∷ es)
       ≡ cond (eqb u w) (row_so_far p w es + (level_of p x - level_of p (bend_at p x u es))) (row_so_far p w es)
   unfolding row_so_far
-  row_more x u es w = go (cases_eq u w)
-    where
-      so : ℕ → ℕ
-      so z = cond (eqb u w) (row_so_far p w es + (level_of p x - level_of p (bend_at p x z es))) (row_so_far p w es)
-
-      go : (u ≡ w) ⊎ (u ≡ w → ⊥) → so w ≡ so u
-      go (inl e) = ap so (sym e)
-      go (inr d) = cond-false _ _ _ (ne_eqb u w d) ∙ sym (cond-false _ _ _ (ne_eqb u w d))
+  row_more x u es w = grind (arith, nat_tests)
 
   -- of u itself
   pub row_own : (x u : ℕ) (es : List (ℕ × ℕ)) →
@@ -129,20 +117,12 @@ module _ (p : Pattern) where
   unfolding by_place
   placed_first x u [] b y w h = absurd (both_ways _ (happened_none y w) h)
   placed_first x u ((z, t) ∷ es) b y w h =
-      go (and_parts _ _ b) (happened_cases z t es y w h) (placed_first z t es)
-    where
-      go : (leb (place_of p z) (place_of p x) ≡ true) × (by_place p ((z, t) ∷ es) ≡ true) →
-          ((z ≡ y) × (t ≡ w)) ⊎ (happened y w es ≡ true) →
-          (by_place p ((z, t) ∷ es) ≡ true → (y w : ℕ) → happened y w es ≡ true → place_of p y ≤ place_of p z) →
-          place_of p y ≤ place_of p x
-      go (l, s) (inl (e, _)) i =
-          let a = leb-true (place_of p z) (place_of p x) l in
-          let c = ap (place_of p) e in
-          omega arith
-      go (l, s) (inr m) i =
-          let a = leb-true (place_of p z) (place_of p x) l in
-          let c = i s y w m in
-          omega arith
+      let (l, s) = and_parts _ _ b in
+      let a = leb-true (place_of p z) (place_of p x) l in
+      elim (happened_cases z t es y w h) [
+        | inl (e, _) ↦ omega (arith, ap (place_of p) e)
+        | inr m ↦ omega (arith, placed_first z t es s y w m)
+      ]
 
   placed_more : (x u : ℕ) (es : List (ℕ × ℕ)) → by_place p es ≡ true →
       ((y w : ℕ) → happened y w es ≡ true → place_of p y ≤ place_of p x) → by_place p ((x, u) ∷ es) ≡ true
@@ -159,24 +139,18 @@ module _ (p : Pattern) where
   pub passing_more : (x u : ℕ) (es : List (ℕ × ℕ)) → Passing p es → x < u → shares p x u ≡ true →
       ((y w : ℕ) → happened y w es ≡ true → place_of p y ≤ place_of p x) → Passing p ((x, u) ∷ es)
   passing_more x u es q low s le = record {
-    lower = λ y w h. go y w (happened_cases x u es y w h);
+    lower = λ y w h. elim (happened_cases x u es y w h) [
+      | inl (e, f) ↦ (omega arith, subst (λ z. shares p z w ≡ true) e (subst (λ z. shares p x z ≡ true) f s))
+      | inr m ↦ q.lower y w m
+    ];
     placed = placed_more x u es q.placed le;
   }
-    where
-      go : (y w : ℕ) → ((x ≡ y) × (u ≡ w)) ⊎ (happened y w es ≡ true) → (y < w) × (shares p y w ≡ true)
-      go y w (inl (e, f)) =
-          (omega arith, subst (λ z. shares p z w ≡ true) e (subst (λ z. shares p x z ≡ true) f s))
-      go y w (inr m) = q.lower y w m
 
   pub passing_older : (x u : ℕ) (es : List (ℕ × ℕ)) → Passing p ((x, u) ∷ es) → Passing p es
   passing_older x u es q = record {
     lower = λ y w h. q.lower y w (happened_before x u es y w h);
     placed = placed_rest (x, u) es q.placed;
   }
-
-  pub passing_part : (newer older : List (ℕ × ℕ)) → Passing p (newer ++ older) → Passing p older
-  passing_part [] older q = q
-  passing_part ((x, u) ∷ newer) older q = passing_part newer older (passing_older x u (newer ++ older) q)
 
   -- none met before stands at a later place
   pub older_placed : (x u : ℕ) (es : List (ℕ × ℕ)) → Passing p ((x, u) ∷ es) →
@@ -197,7 +171,7 @@ module _ (p : Pattern) where
     entry = s;
     from = (shares_parts p x u s).0.left;
     to = (shares_parts p x u s).0.right;
-    lies = under_of p.order (parent p) (parents_grow p) (way_climb p u x low (edge x s));
+    lies = way_lies p u x low (edge x s);
   }
 
   pub met_lower : (es : List (ℕ × ℕ)) → Passing p es → (x u : ℕ) → happened x u es ≡ true → Lower x u
@@ -219,60 +193,45 @@ module _ (p : Pattern) where
   last_tells u [] q = inl (last_none u, λ y. happened_none y u)
   last_tells u ((x, w) ∷ es) q =
       subst (λ l. NoneOrNewest u l ((x, w) ∷ es)) (sym (last_more x w es u))
-      (go (cases_eq w u) (last_tells u es (passing_older x w es q)))
-    where
-      go : (w ≡ u) ⊎ (w ≡ u → ⊥) → NoneOrNewest u (last_met u es) es →
-          NoneOrNewest u (cond (eqb w u) x (last_met u es)) ((x, w) ∷ es)
-      go (inl e) i =
-          let now : happened x u ((x, w) ∷ es) ≡ true =
-          subst (λ z. happened x z ((x, w) ∷ es) ≡ true) e (happened_now x w es) in
-          subst (λ l. NoneOrNewest u l ((x, w) ∷ es)) (sym (cond-true _ _ _ (eq-eqb w u e)))
-          (inr (record {
-            met = now;
-            latest = λ y h. before y (happened_cases x w es y u h);
-            lower = met_lower ((x, w) ∷ es) q x u now;
-          }))
-        where
-          before : (y : ℕ) → ((x ≡ y) × (w ≡ u)) ⊎ (happened y u es ≡ true) → place_of p y ≤ place_of p x
-          before y (inl (s, _)) = let c = ap (place_of p) s in omega arith
-          before y (inr m) = older_placed x w es q y u m
-      go (inr d) i =
-          subst (λ l. NoneOrNewest u l ((x, w) ∷ es)) (sym (cond-false _ _ _ (ne_eqb w u d))) (same i)
-        where
-          old : (y : ℕ) → ((x ≡ y) × (w ≡ u)) ⊎ (happened y u es ≡ true) → happened y u es ≡ true
-          old y (inl (_, s)) = absurd (d s)
-          old y (inr m) = m
-
-          same : NoneOrNewest u (last_met u es) es → NoneOrNewest u (last_met u es) ((x, w) ∷ es)
-          same (inl (z, none)) = inl (
-            z,
-            λ y.
-                happened_more x w es y u ∙ or_from _ _ (and_right (eqb x y) _ (ne_eqb w u d)) (none y),
-          )
-          same (inr new) = inr (record {
-            met = happened_before x w es _ u new.met;
-            latest = λ y h. new.latest y (old y (happened_cases x w es y u h));
-            lower = new.lower;
-          })
+      (elim (cases_eq w u) [
+        | inl e ↦
+            let now : happened x u ((x, w) ∷ es) ≡ true =
+            subst (λ z. happened x z ((x, w) ∷ es) ≡ true) e (happened_now x w es) in
+            subst (λ l. NoneOrNewest u l ((x, w) ∷ es)) (sym (cond-true _ _ _ (eq-eqb w u e)))
+            (inr (record {
+              met = now;
+              latest = λ y h. elim (happened_cases x w es y u h) [
+                | inl (s, _) ↦ omega (arith, ap (place_of p) s)
+                | inr m ↦ older_placed x w es q y u m
+              ];
+              lower = met_lower ((x, w) ∷ es) q x u now;
+            }))
+        | inr d ↦
+            subst (λ l. NoneOrNewest u l ((x, w) ∷ es)) (sym (cond-false _ _ _ (ne_eqb w u d)))
+            (elim (last_tells u es (passing_older x w es q)) [
+              | inl (z, none) ↦ inl (
+                z,
+                λ y. happened_more x w es y u ∙ or_from _ _ (and_right (eqb x y) _ (ne_eqb w u d)) (none y),
+              )
+              | inr new ↦ inr (record {
+                met = happened_before x w es _ u new.met;
+                latest = λ y h. new.latest y
+                    (elim (happened_cases x w es y u h) [ inl (_, s) ↦ absurd (d s) | inr m ↦ m ]);
+                lower = new.lower;
+              })
+            ])
+      ])
 
   -- what was met last, if it is not 0
   pub last_newest : (u : ℕ) (es : List (ℕ × ℕ)) → Passing p es → 1 ≤ last_met u es → Newest u (last_met u es) es
-  last_newest u es q l = go (last_tells u es q)
-    where
-      go : NoneOrNewest u (last_met u es) es → Newest u (last_met u es) es
-      go (inl (e, _)) = absurd (omega arith)
-      go (inr new) = new
+  last_newest u es q l = elim (last_tells u es q) [ inl (e, _) ↦ absurd (omega arith) | inr new ↦ new ]
 
   -- it lies below u
   pub last_lower : (u : ℕ) (es : List (ℕ × ℕ)) → Passing p es → 1 ≤ last_met u es → Lower (last_met u es) u
   last_lower u es q l = (last_newest u es q l).lower
 
   pub last_fits : (u : ℕ) (es : List (ℕ × ℕ)) → Passing p es → last_met u es ≤ p.order
-  last_fits u es q = go (last_tells u es q)
-    where
-      go : NoneOrNewest u (last_met u es) es → last_met u es ≤ p.order
-      go (inl (e, _)) = omega arith
-      go (inr new) = new.lower.from.fits
+  last_fits u es q = elim (last_tells u es q) [ inl (e, _) ↦ omega arith | inr new ↦ new.lower.from.fits ]
 
   -- q is where the path from x joins row u: a vertex on the way from x to u
   pub record Bend (x u q : ℕ) : Type 0 where
@@ -282,19 +241,14 @@ module _ (p : Pattern) where
     pub level : level_of p q ≤ level_of p x
 
   bend_on : (x u q : ℕ) → in_subtree p x q ≡ true → in_subtree p q u ≡ true → Bend x u q
-  bend_on x u q over lies = record {
-    vertex = ends.1;
-    over = over;
-    lies = lies;
-    level = go (under_level p.order (parent p) (parents_grow p) x ends.0.fits q over);
-  }
-    where
-      ends : Vertex p.order x × Vertex p.order q
-      ends = under_parts p.order (parent p) (parents_grow p) x q over
-
-      go : (x ≡ q) ⊎ (level_of p q < level_of p x) → level_of p q ≤ level_of p x
-      go (inl e) = let f = ap (level_of p) e in omega arith
-      go (inr less) = omega arith
+  bend_on x u q over lies =
+      let ends = under_parts p.order (parent p) (parents_grow p) x q over in
+      record {
+        vertex = ends.1;
+        over = over;
+        lies = lies;
+        level = under_level_le p.order (parent p) (parents_grow p) x ends.0.fits q over;
+      }
 
   -- the meeting vertex with what was met last lies over both and under u
   pub bend_both : (x u : ℕ) (es : List (ℕ × ℕ)) → Passing p ((x, u) ∷ es) → 1 ≤ last_met u es →
@@ -312,15 +266,14 @@ module _ (p : Pattern) where
       (sym (bend_later x u es l)) (a, b, lies)
 
   pub bend_lies : (x u : ℕ) (es : List (ℕ × ℕ)) → Passing p ((x, u) ∷ es) → Bend x u (bend_at p x u es)
-  bend_lies x u es q = go (last_tells u es (passing_older x u es q))
-    where
-      go : NoneOrNewest u (last_met u es) es → Bend x u (bend_at p x u es)
-      go (inl (e, _)) =
-          let new = new_lower x u es q in
-          subst (Bend x u) (sym (bend_first x u es e))
-          (bend_on x u u new.lies (under_self p.order (parent p) (parents_grow p) u new.to))
-      go (inr last) =
-          let (_, over, lies) = bend_both x u es q last.lower.from.named in bend_on x u _ over lies
+  bend_lies x u es q =
+      elim (last_tells u es (passing_older x u es q)) [
+        | inl (e, _) ↦
+            let new = new_lower x u es q in
+            subst (Bend x u) (sym (bend_first x u es e))
+            (bend_on x u u new.lies (under_self p.order (parent p) (parents_grow p) u new.to))
+        | inr last ↦ let (_, over, lies) = bend_both x u es q last.lower.from.named in bend_on x u _ over lies
+      ]
 
   -- what was met last has the bend for its top when x is about to be passed
   pub bend_top : (x u : ℕ) (es : List (ℕ × ℕ)) → Passing p ((x, u) ∷ es) → 1 ≤ last_met u es →
@@ -335,13 +288,6 @@ module _ (p : Pattern) where
             (last_met u es) last.lower.from.fits last.lower.lies le ∙ sym (bend_later x u es l),
       )
 
-  -- the same where x stands at place t + 1
-  pub bend_top_at : (x u : ℕ) (es : List (ℕ × ℕ)) → Passing p ((x, u) ∷ es) → 1 ≤ last_met u es →
-      (t : ℕ) → place_of p x ≡ suc t → top_after p.order (parent p) t (last_met u es) ≡ bend_at p x u es
-  bend_top_at x u es q l t at =
-      ap (λ k. top_after p.order (parent p) k (last_met u es)) (let k : t ≡ place_of p x - 1 = omega arith in k)
-      ∙ (bend_top x u es q l).1
-
   -- every lower neighbour up to place k is met: at first, one place more, at the end
   abbrev pub MetTo : ℕ → List (ℕ × ℕ) → Type 0
   MetTo k es = (x u : ℕ) → x < u → shares p x u ≡ true → place_of p x ≤ k → happened x u es ≡ true
@@ -353,16 +299,16 @@ module _ (p : Pattern) where
 
   pub met_to_next : (k z : ℕ) (es : List (ℕ × ℕ)) → 1 ≤ z → z ≤ p.order → place_of p z ≡ suc k → MetTo k es →
       ((u : ℕ) → z < u → shares p z u ≡ true → happened z u es ≡ true) → MetTo (suc k) es
-  met_to_next k z es named fits at before own x u low s le = go (cases_lt k (place_of p x))
-    where
-      go : (k < place_of p x) ⊎ (place_of p x ≤ k) → happened x u es ≡ true
-      go (inr early) = before x u low s early
-      go (inl late) =
-          let h = (shares_parts p x u s).0.left in
-          let e = place_apart p.order (parent p) (parents_grow p) x z h (record { named = named; fits = fits })
-          (omega arith) in
-          subst (λ y. happened y u es ≡ true) (sym e)
-          (own u (omega arith) (subst (λ y. shares p y u ≡ true) e s))
+  met_to_next k z es named fits at before own x u low s le =
+      elim (cases_lt k (place_of p x)) [
+        | inl late ↦
+            let h = (shares_parts p x u s).0.left in
+            let e = place_apart p.order (parent p) (parents_grow p) x z h (record { named = named; fits = fits })
+            (omega arith) in
+            subst (λ y. happened y u es ≡ true) (sym e)
+            (own u (omega arith) (subst (λ y. shares p y u ≡ true) e s))
+        | inr early ↦ before x u low s early
+      ]
 
   pub met_to_end : (es : List (ℕ × ℕ)) → Passing p es → MetTo p.order es → Passed p es
   met_to_end es q all = record {

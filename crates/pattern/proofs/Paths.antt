@@ -4,7 +4,7 @@ use Rattle.std.proofs.lemmas.Bool.{cases_eq, cases_lt}
 use Rattle.pattern.specs.Patterns.{Pattern, shares}
 use Rattle.pattern.specs.Elimination.{joined, fill}
 use Rattle.pattern.proofs.Tests.{Vertex}
-use Rattle.pattern.proofs.Joins.{Joins, shares_parts, shares_sym, joined_parts, joined_before, joined_now}
+use Rattle.pattern.proofs.Joins.{shares_parts, shares_sym, joined_parts, joined_before, joined_now}
 use Rattle.pattern.proofs.Joins.{joined_start, joined_stays}
 
 -- a way from a to b whose inner vertices are all under m
@@ -34,71 +34,70 @@ module _ {p : Pattern} where
   -- a way with inner vertices up to k avoids k, or is cut at k
   pub split : (k : ℕ) {b a : ℕ} → Way p (suc k) b a → Way p k b a ⊎ (Way p k k a × Way p k b k)
   split k (edge a s) = inl (edge a s)
-  split k {b} (hop a x s low w) = go (cases_eq x k) (split k w)
-    where
-      go : (x ≡ k) ⊎ (x ≡ k → ⊥) → Way p k b x ⊎ (Way p k k x × Way p k b k) →
-          Way p k b a ⊎ (Way p k k a × Way p k b k)
-      go (inl same) (inl v) = inr (edge a (subst (λ y. shares p a y ≡ true) same s), subst (Way p k b) same v)
-      go (inl same) (inr (v, w)) = inr (edge a (subst (λ y. shares p a y ≡ true) same s), w)
-      go (inr other) (inl v) = inl (hop a x s (omega (arith, low, other)) v)
-      go (inr other) (inr (v, w)) = inr (hop a x s (omega (arith, low, other)) v, w)
+  split k {b} (hop a x s low w) =
+      elim (cases_eq x k) [
+        | inl same ↦
+            let first : Way p k k a = edge a (subst (λ y. shares p a y ≡ true) same s) in
+            elim (split k w) [
+              | inl v ↦ inr (first, subst (Way p k b) same v)
+              | inr (v, w) ↦ inr (first, w)
+            ]
+        | inr other ↦
+            elim (split k w) [
+              | inl v ↦ inl (hop a x s (omega arith) v)
+              | inr (v, w) ↦ inr (hop a x s (omega arith) v, w)
+            ]
+      ]
 
   -- the last step
   pub last_step : {m b a : ℕ} → Way p m b a →
       (shares p a b ≡ true) ⊎ ((x : ℕ) × (x < m) × Way p m x a × (shares p x b ≡ true))
   last_step (edge a s) = inl s
-  last_step {m} {b} (hop a x s low w) = go (last_step w)
-    where
-      go : (shares p x b ≡ true) ⊎ ((y : ℕ) × (y < m) × Way p m y x × (shares p y b ≡ true)) →
-          (shares p a b ≡ true) ⊎ ((y : ℕ) × (y < m) × Way p m y a × (shares p y b ≡ true))
-      go (inl t) = inr (x, low, edge a s, t)
-      go (inr (y, lower, v, t)) = inr (y, lower, hop a x s low v, t)
+  last_step {m} {b} (hop a x s low w) =
+      inr
+      (elim (last_step w) [
+        | inl t ↦ (x, low, edge a s, t)
+        | inr (y, lower, v, t) ↦ (y, lower, hop a x s low v, t)
+      ])
 
   -- the first vertex above v, on a way that ends above v
   pub first_above : (v : ℕ) {m b a : ℕ} → v < b → Way p m b a →
       (w : ℕ) × (v < w) × ((w ≡ b) ⊎ (w < m)) × Way p (suc v) w a
   first_above v {b} high (edge a s) = (b, high, inl refl, edge a s)
-  first_above v {m} {b} high (hop a x s low w) = go (cases_lt v x) (first_above v high w)
-    where
-      go : (v < x) ⊎ (x ≤ v) → ((w : ℕ) × (v < w) × ((w ≡ b) ⊎ (w < m)) × Way p (suc v) w x) →
-          (w : ℕ) × (v < w) × ((w ≡ b) ⊎ (w < m)) × Way p (suc v) w a
-      go (inl over) _ = (x, over, inr low, edge a s)
-      go (inr le) (w, over, at, way) = (w, over, at, hop a x s (omega (arith, le)) way)
+  first_above v {m} {b} high (hop a x s low w) =
+      elim (cases_lt v x) [
+        | inl over ↦ (x, over, inr low, edge a s)
+        | inr le ↦ let (w, over, at, way) = first_above v high w in (w, over, at, hop a x s (omega arith) way)
+      ]
 
   -- what is joined is joined by a way with inner vertices under both ends
   pub joined_way : (k m a b : ℕ) → min a b ≤ m → joined p k a b ≡ true → Way p m b a
   joined_way zero m a b le e = edge a (joined_start p a b ∙ e)
-  joined_way (suc k) m a b le e = go (joined_way k m a b le) (joined_way k m (suc k)) (joined_parts p k a b e)
-    where
-      go : (joined p k a b ≡ true → Way p m b a) →
-          ((c : ℕ) → min (suc k) c ≤ m → joined p k (suc k) c ≡ true → Way p m c (suc k)) →
-          (joined p k a b ≡ true) ⊎ Joins p k a b → Way p m b a
-      go old new (inl before) = old before
-      go old new (inr j) =
-          let over = j.a-above in
-          let above = j.b-above in
-          join (back (new a (omega arith) j.at_a)) (omega arith) (new b (omega arith) j.at_b)
+  joined_way (suc k) m a b le e =
+      elim (joined_parts p k a b e) [
+        | inl before ↦ joined_way k m a b le before
+        | inr j ↦
+            join (back (joined_way k m (suc k) a (omega arith) j.at_a)) (omega arith)
+            (joined_way k m (suc k) b (omega arith) j.at_b)
+      ]
 
   -- a way with inner vertices up to k, between ends above k, joins once 1 to k are eliminated
   pub way_joined : (k a b : ℕ) → k < a → k < b → (a ≡ b → ⊥) → Way p (suc k) b a → joined p k a b ≡ true
   way_joined zero a b low high apart (edge _ s) = sym (joined_start p a b) ∙ s
   way_joined zero a b low high apart (hop _ x s under w) = absurd (omega (arith, (way_start w).named))
   way_joined (suc k) a b low high apart w =
-      go (way_joined k a b) (λ c. way_joined k (suc k) c) (split (suc k) w)
-    where
-      go : (k < a → k < b → (a ≡ b → ⊥) → Way p (suc k) b a → joined p k a b ≡ true) →
-          ((c : ℕ) → k < suc k → k < c → (suc k ≡ c → ⊥) → Way p (suc k) c (suc k) → joined p k (suc k) c ≡ true) →
-          Way p (suc k) b a ⊎ (Way p (suc k) (suc k) a × Way p (suc k) b (suc k)) → joined p (suc k) a b ≡ true
-      go old new (inl v) = joined_before p k a b (old (omega arith) (omega arith) apart v)
-      go old new (inr (v, w)) =
-          joined_now p k a b
-          (record {
-            a-above = low;
-            b-above = high;
-            apart = apart;
-            at_a = new a (omega arith) (omega arith) (λ e. omega (arith, e)) (back v);
-            at_b = new b (omega arith) (omega arith) (λ e. omega (arith, e)) w;
-          })
+      elim (split (suc k) w) [
+        | inl v ↦ joined_before p k a b (way_joined k a b (omega arith) (omega arith) apart v)
+        | inr (v, w) ↦
+            joined_now p k a b
+            (record {
+              a-above = low;
+              b-above = high;
+              apart = apart;
+              at_a = way_joined k (suc k) a (omega arith) (omega arith) (λ e. omega arith) (back v);
+              at_b = way_joined k (suc k) b (omega arith) (omega arith) (λ e. omega arith) w;
+            })
+      ]
 
   -- fill is ways
   pub fill_way : (v u : ℕ) → v < u → fill p v u ≡ true → Way p v u v

@@ -1,18 +1,20 @@
 -- Places: the subtree of a vertex takes an interval of them that ends at its own, and siblings follow one another.
-use Rattle.std.proofs.Common.{◌≡◌, ℕ, zero, suc, ◌+◌, ◌-◌, ◌<◌, ◌≤◌, true, false, cond, eqb, ltb, ◌⊎◌, List, [], ◌∷◌, ◌++◌, length, get_or, sym, refl, ap, ◌∙◌, inl, inr, arith}
-use Rattle.std.proofs.lemmas.Bool.{cases_Bool, and_parts, or_left, or_right, le-ltb, cond-true, eq-eqb}
+use Rattle.std.proofs.Common.{◌≡◌, ℕ, zero, suc, ◌+◌, ◌-◌, ◌<◌, ◌≤◌, true, cond, eqb, ltb, List, [], ◌∷◌, ◌++◌, length, get_or, sym, refl, ap, ◌∙◌, inl, inr, arith}
+use Rattle.std.proofs.lemmas.Bool.{cases_Bool, and_parts, or_left, or_right, le-ltb, cond-true, eq-eqb, true_from_ne_false}
 use Rattle.std.proofs.lemmas.Bool.Decides.{nat_tests}
 use Rattle.std.proofs.lemmas.List.{append_assoc, length-append}
 use Rattle.pattern.specs.Lists.{upto, sum, occurs, each, position, greatest}
 use Rattle.pattern.specs.Forest.{Grows, under, children, visit, walk, place, subtree, first_place, level, height}
 use Rattle.pattern.specs.Walks.{size, at_place, EachOnce, Interval, SiblingsAscend, times}
 use Rattle.pattern.proofs.Tests.{Vertex}
-use Rattle.pattern.proofs.Lists.{occurs_append, keep_occurs, in_keep, keep_has, sum_grows, sum_append, keep_none}
-use Rattle.pattern.proofs.Sums.{count_is_sum}
+use Rattle.pattern.proofs.Lists.{occurs_append, keep_occurs, in_keep, keep_has, sum_grows, keep_none}
+use Rattle.pattern.proofs.Sums.{sum_plus, count_is_sum}
 use Rattle.pattern.proofs.Lines.{under_self, under_le}
-use Rattle.pattern.proofs.Forest.{under_parts, in_children, size_by_children}
+use Rattle.pattern.proofs.Forest.{under_parts, in_children, size_by_children, parent_vertex}
 use Rattle.pattern.proofs.Tallies.{
   bit,
+  tally,
+  tally_append,
   sum_same,
   sum_each,
   length_is_sum,
@@ -29,7 +31,6 @@ use Rattle.pattern.proofs.Tallies.{
   least_ge,
   greatest_ge,
   sum_keep,
-  sum_plus,
   sum_at,
 }
 use Rattle.pattern.proofs.Walk.{
@@ -77,7 +78,7 @@ module _ (n : ℕ) (up : ℕ → ℕ) (grows : Grows n up) where
   spot_cut v h before inner behind e =
       let same = e ∙ sym (append_assoc before inner (v ∷ behind)) in
       let a = whole_once n up grows v h in
-      let b = ap (sum (λ y. bit (eqb y v))) same in
+      let b = ap (tally v) same in
       let c = position_here v (before ++ inner) behind (omega arith) in
       let d = ap (position v) same in
       let f = length-append before inner in
@@ -111,18 +112,17 @@ module _ (n : ℕ) (up : ℕ → ℕ) (grows : Grows n up) where
     unfolding own
     length_own = length_visit n up grows (suc r.fuel) v h (r.enough h.named)
 
-    own_counts : (x : ℕ) → sum (λ y. bit (eqb y x)) own ≡ bit (under n up x v)
+    own_counts : (x : ℕ) → tally x own ≡ bit (under n up x v)
     unfolding own
     own_counts x = visit_counts n up grows (suc r.fuel) v h (r.enough h.named) x
 
-    parts_count : (x : ℕ) → Vertex n x → sum (λ y. bit (eqb y x)) r.before + bit (under n up x v)
-        + sum (λ y. bit (eqb y x)) r.behind ≡ 1
+    parts_count : (x : ℕ) → Vertex n x → tally x r.before + bit (under n up x v) + tally x r.behind ≡ 1
     unfolding own
     parts_count x g =
         let a = whole_once n up grows x g.fits in
-        let b = ap (sum (λ y. bit (eqb y x))) r.cut in
-        let c = sum_append (λ y. bit (eqb y x)) r.before (own ++ r.behind) in
-        let d = sum_append (λ y. bit (eqb y x)) own r.behind in
+        let b = ap (tally x) r.cut in
+        let c = tally_append x r.before (own ++ r.behind) in
+        let d = tally_append x own r.behind in
         let e = own_counts x in
         omega arith
 
@@ -148,32 +148,26 @@ module _ (n : ℕ) (up : ℕ → ℕ) (grows : Grows n up) where
     block_outer : (x : ℕ) → Vertex n x → length r.before < place n up x →
         place n up x ≤ length r.before + size n up v → under n up x v ≡ true
     unfolding own spot
-    block_outer x g low high = go (cases_Bool (under n up x v)) (cases_Bool (occurs x r.before))
-      where
-        go : (under n up x v ≡ true) ⊎ (under n up x v ≡ false) →
-            (occurs x r.before ≡ true) ⊎ (occurs x r.before ≡ false) → under n up x v ≡ true
-        go (inl u) o = u
-        go (inr u) (inl o) =
-            let a = position_left x r.before (own ++ r.behind) o in
-            let b = position_bounds x r.before o in
-            let s = ap (position x) r.cut in
-            let t = spot_vertex x g in
-            absurd (omega arith)
-        go (inr u) (inr o) =
-            let a = parts_count x g in
-            let b = ap bit u in
-            let c = own_counts x in
-            let d = occurs_uncounted x r.before o in
-            let absent = absent_from_count x own (omega arith) in
-            let behind = occurs_from_count x r.behind (omega arith) in
-            let e = position_right x own r.behind absent behind in
-            let f = position_right x r.before (own ++ r.behind) o
-            (occurs_append x own r.behind ∙ or_right _ _ behind) in
-            let i = position_bounds x r.behind behind in
-            let l = length_own in
-            let s = ap (position x) r.cut in
-            let t = spot_vertex x g in
-            absurd (omega arith)
+    block_outer x g low high = true_from_ne_false _ (λ u.
+        let s = ap (position x) r.cut in
+        let t = spot_vertex x g in
+        elim (cases_Bool (occurs x r.before)) [
+          | inl o ↦
+              omega (arith, position_left x r.before (own ++ r.behind) o, position_bounds x r.before o)
+          | inr o ↦
+              let a = parts_count x g in
+              let b = ap bit u in
+              let c = own_counts x in
+              let d = occurs_uncounted x r.before o in
+              let absent = absent_from_count x own (omega arith) in
+              let behind = occurs_from_count x r.behind (omega arith) in
+              let e = position_right x own r.behind absent behind in
+              let f = position_right x r.before (own ++ r.behind) o
+              (occurs_append x own r.behind ∙ or_right _ _ behind) in
+              let i = position_bounds x r.behind behind in
+              let l = length_own in
+              omega arith
+        ])
 
   pub block : (v : ℕ) → Vertex n v → Block v
   block v h =
@@ -214,7 +208,7 @@ module _ (n : ℕ) (up : ℕ → ℕ) (grows : Grows n up) where
   pub place_child : (c : ℕ) → Vertex n c → 1 ≤ up c →
       place n up c + sum (size n up) (above n up (up c) c) + 1 ≡ place n up (up c)
   place_child c h l =
-      spot_parent c h ∙ spot_vertex (up c) (record { named = l; fits = grows.stays c h.named h.fits })
+      spot_parent c h ∙ spot_vertex (up c) (parent_vertex n up grows c h l)
 
   pub place_root : (c : ℕ) → Vertex n c → up c ≡ 0 → place n up c + sum (size n up) (above n up (up c) c) + 1 ≡ n + 1
   place_root c h e = let a = spot_parent c h in let b = ap (spot n up) e in let d = spot_none in omega arith
@@ -297,11 +291,6 @@ module _ (n : ℕ) (up : ℕ → ℕ) (grows : Grows n up) where
       let k = under_le n up grows w v (a.outer w g (omega arith) (omega arith)) in
       let m = under_le n up grows v w (b.outer v h (omega arith) (omega arith)) in
       omega arith
-
-  pub at_place_of : (v : ℕ) → Vertex n v → at_place n up (place n up v) ≡ v
-  at_place_of v h =
-      let b = place_bounds v h in
-      place_apart _ v (at_place_vertex _ b.0 b.1) h (place_at _ b.0 b.1)
 
   pub each_once : EachOnce n up
   unfolding times

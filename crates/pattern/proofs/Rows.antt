@@ -1,18 +1,15 @@
 -- Rows as subtrees, columns by children, counts by rows, and what more entries change.
-use Rattle.std.proofs.Common.{◌≡◌, ℕ, zero, suc, ◌<◌, ◌≤◌, Bool, true, false, cond, ◌&&◌, ◌||◌, eqb, ltb, ◌⊎◌, List, length, sym, refl, ap, ◌∙◌, subst, inl, inr, arith}
-use mathlib.Core.Path.{fun_ext}
+use Rattle.std.proofs.Common.{◌≡◌, ℕ, zero, suc, ◌<◌, ◌≤◌, Bool, true, false, ◌&&◌, ◌||◌, eqb, ltb, ◌⊎◌, length, sym, refl, ◌∙◌, subst, inl, inr, arith}
 use Rattle.std.proofs.lemmas.Bool.{and_parts, and_from, lt-ltb}
 use Rattle.pattern.specs.Lists.{upto, keep, occurs, sum}
 use Rattle.pattern.specs.Patterns.{Pattern, listed, shares}
 use Rattle.pattern.specs.Elimination.{joined, fill, row, col, row_count, col_count, total, parent}
 use Rattle.pattern.specs.Fill.{in_subtree, Keeps}
-use Rattle.pattern.proofs.Tests.{Vertex, eqb_swap}
+use Rattle.pattern.proofs.Tests.{Vertex}
 use Rattle.pattern.proofs.Lists.{in_own, own_has, keep_grows, sum_grows}
-use Rattle.pattern.proofs.Sums.{count_is_sum, sum_exchange}
-use Rattle.pattern.proofs.Lines.{Climb, climb_of, under_of, under_self, last_climb, climb_start}
+use Rattle.pattern.proofs.Lines.{climb_of, under_of, under_self, last_climb, climb_start}
 use Rattle.pattern.proofs.Joins.{
   Ends,
-  Joins,
   shares_parts,
   shares_from,
   joined_start,
@@ -22,7 +19,7 @@ use Rattle.pattern.proofs.Joins.{
   fill_ends,
 }
 use Rattle.pattern.proofs.Paths.{Way, edge, hop, join, back, last_step, fill_way, way_fill}
-use Rattle.pattern.proofs.Tree.{parent_is, parents_grow, climb_way, way_climb, parent_joined}
+use Rattle.pattern.proofs.Tree.{parent_is, parents_grow, climb_way, parent_joined, way_lies}
 
 module _ (p : Pattern) where
   -- the smaller v is in row u, and u in the column of v, exactly when the fill joins them
@@ -53,95 +50,73 @@ module _ (p : Pattern) where
     pub entry : shares p at u ≡ true
 
   pub fill_touches : (v u : ℕ) → v < u → fill p v u ≡ true → Touches v u
-  fill_touches v u less e = go (last_step (fill_way v u less e))
-    where
-      go : (shares p v u ≡ true) ⊎ ((x : ℕ) × (x < v) × Way p v x v × (shares p x u ≡ true)) → Touches v u
-      go (inl s) =
-          record {
-            at = v;
-            lies = under_self p.order (parent p) (parents_grow p) v (shares_parts p v u s).0.left;
-            entry = s;
-          }
-      go (inr (x, low, w, s)) =
-          record {
-            at = x;
-            lies = under_of p.order (parent p) (parents_grow p) (way_climb p v x low (back w));
-            entry = s;
-          }
+  fill_touches v u less e =
+      elim (last_step (fill_way v u less e)) [
+        | inl s ↦ record {
+          at = v;
+          lies = under_self p.order (parent p) (parents_grow p) v (shares_parts p v u s).0.left;
+          entry = s;
+        }
+        | inr (x, low, w, s) ↦ record {
+          at = x;
+          lies = way_lies p v x low (back w);
+          entry = s;
+        }
+      ]
 
   pub touches_fill : (v u x : ℕ) → v < u → in_subtree p x v ≡ true → shares p x u ≡ true → fill p v u ≡ true
-  touches_fill v u x less lies s = way_fill v u less (go (climb_way p v (climb_of p.order (parent p) x v lies)))
-    where
-      go : (x ≡ v) ⊎ ((x < v) × Way p v v x) → Way p v u v
-      go (inl same) = edge v (subst (λ y. shares p y u ≡ true) same s)
-      go (inr (low, w)) = join (back w) low (edge x s)
+  touches_fill v u x less lies s =
+      way_fill v u less
+      (elim (climb_way p v (climb_of p.order (parent p) x v lies)) [
+        | inl same ↦ edge v (subst (λ y. shares p y u ≡ true) same s)
+        | inr (low, w) ↦ join (back w) low (edge x s)
+      ])
 
   -- the columns of its children, and its own entries, make up the column of v
   pub fill_by_children : (v u : ℕ) → v < u → fill p v u ≡ true →
       (shares p v u ≡ true) ⊎ ((c : ℕ) × (parent p c ≡ v) × (fill p c u ≡ true))
   fill_by_children v u less e =
       let t = fill_touches v u less e in
-      go t (last_climb (climb_of p.order (parent p) t.at v t.lies))
-    where
-      go : (t : Touches v u) → (t.at ≡ v) ⊎ ((c : ℕ) × (parent p c ≡ v) × Climb p.order (parent p) c t.at) →
-          (shares p v u ≡ true) ⊎ ((c : ℕ) × (parent p c ≡ v) × (fill p c u ≡ true))
-      go t (inl same) = inl (subst (λ y. shares p y u ≡ true) same t.entry)
-      go t (inr (c, is, d)) =
-          let high = (parent_is p c (omega (arith, is, (fill_ends p v u e).left.named))).above in
-          inr (
-            c,
-            is,
-            touches_fill c u t.at (omega (arith, high, is, less))
-                (under_of p.order (parent p) (parents_grow p) d) t.entry,
-          )
+      elim (last_climb (climb_of p.order (parent p) t.at v t.lies)) [
+        | inl same ↦ inl (subst (λ y. shares p y u ≡ true) same t.entry)
+        | inr (c, is, d) ↦
+            let high = (parent_is p c (omega (arith, (fill_ends p v u e).left.named))).above in
+            inr (
+              c,
+              is,
+              touches_fill c u t.at (omega arith) (under_of p.order (parent p) (parents_grow p) d) t.entry,
+            )
+      ]
 
   pub children_fill : (v u c : ℕ) → 1 ≤ v → v < u → parent p c ≡ v → fill p c u ≡ true → fill p v u ≡ true
   children_fill v u c some less is e =
-      let q = parent_is p c (omega (arith, some, is)) in
-      go (parent_joined p c u (omega (arith, q.above, is, less)) e).1
-    where
-      go : (parent p c ≡ u) ⊎ (fill p (parent p c) u ≡ true) → fill p v u ≡ true
-      go (inl same) = absurd (omega (arith, less, same, is))
-      go (inr joins) = subst (λ y. fill p y u ≡ true) is joins
+      let q = parent_is p c (omega arith) in
+      elim (parent_joined p c u (omega (arith, q.above)) e).1 [
+        | inl same ↦ absurd (omega arith)
+        | inr joins ↦ subst (λ y. fill p y u ≡ true) is joins
+      ]
 
   pub sharing_fill : (a b : ℕ) → a < b → shares p a b ≡ true → fill p a b ≡ true
   sharing_fill a b less s = way_fill a b less (edge a s)
-
-  -- counted row by row, the factor's places are as many
-  pub counted_by_rows : total p ≡ sum (row_count p) (upto p.order)
-  unfolding total row_count col_count row col
-  counted_by_rows =
-      ap (λ f. sum f all) (fun_ext (λ v. count_is_sum (λ u. eqb u v || (ltb v u && fill p v u)) all))
-      ∙ sum_exchange (λ v u. cond (eqb u v || (ltb v u && fill p v u)) 1 0) all all
-      ∙ ap (λ f. sum f all)
-      (fun_ext
-      (λ u.
-      ap (λ f. sum f all) (fun_ext (λ v. ap (λ t. cond (t || (ltb v u && fill p v u)) 1 0) (eqb_swap u v)))
-      ∙ sym (count_is_sum (λ v. eqb v u || (ltb v u && fill p v u)) all)))
-    where
-      all : List ℕ
-      all = upto p.order
 
 -- q has the order of p, and shares what p shares
 module _ (p q : Pattern) (same : p.order ≡ q.order)
     (more : (a b : ℕ) → shares p a b ≡ true → shares q a b ≡ true) where
   joined_grows : (k a b : ℕ) → joined p k a b ≡ true → joined q k a b ≡ true
   joined_grows zero a b e = sym (joined_start q a b) ∙ more a b (joined_start p a b ∙ e)
-  joined_grows (suc k) a b e = go (joined_grows k a b) (joined_grows k (suc k)) (joined_parts p k a b e)
-    where
-      go : (joined p k a b ≡ true → joined q k a b ≡ true) →
-          ((c : ℕ) → joined p k (suc k) c ≡ true → joined q k (suc k) c ≡ true) →
-          (joined p k a b ≡ true) ⊎ Joins p k a b → joined q (suc k) a b ≡ true
-      go old new (inl before) = joined_before q k a b (old before)
-      go old new (inr j) =
-          joined_now q k a b
-          (record {
-            a-above = j.a-above;
-            b-above = j.b-above;
-            apart = j.apart;
-            at_a = new a j.at_a;
-            at_b = new b j.at_b;
-          })
+  joined_grows (suc k) a b e =
+      elim (joined_parts p k a b e) [
+        | inl before ↦ joined_before q k a b (joined_grows k a b before)
+        | inr j ↦
+            joined_now q k a b
+            (record {
+              a-above = j.a-above;
+              b-above = j.b-above;
+              apart = j.apart;
+              at_a = joined_grows k (suc k) a j.at_a;
+              at_b = joined_grows k (suc k) b j.at_b;
+            })
+      ]
 
   pub fill_grows : (a b : ℕ) → fill p a b ≡ true → fill q a b ≡ true
   unfolding fill
@@ -177,14 +152,13 @@ module _ (p q : Pattern) (same : p.order ≡ q.order)
 
   pub above_grows : (x v : ℕ) → in_subtree p x v ≡ true → in_subtree q x v ≡ true
   above_grows x v lies =
-      let c = climb_of p.order (parent p) x v lies in go (climb_start c) (climb_way p v c)
-    where
-      go : Vertex p.order x → (x ≡ v) ⊎ ((x < v) × Way p v v x) → in_subtree q x v ≡ true
-      go vx (inl is) =
-          subst (λ y. in_subtree q x y ≡ true) is
-          (under_self q.order (parent q) (parents_grow q) x (subst (λ n. Vertex n x) same vx))
-      go vx (inr (low, w)) =
-          under_of q.order (parent q) (parents_grow q) (way_climb q v x low (way_grows w))
+      let c = climb_of p.order (parent p) x v lies in
+      elim (climb_way p v c) [
+        | inl is ↦
+            subst (λ y. in_subtree q x y ≡ true) is
+            (under_self q.order (parent q) (parents_grow q) x (subst (λ n. Vertex n x) same (climb_start c)))
+        | inr (low, w) ↦ way_lies q v x low (way_grows w)
+      ]
 
   pub keeps : Keeps p q
   keeps =

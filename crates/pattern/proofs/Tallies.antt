@@ -1,10 +1,11 @@
 -- Sums over lists of vertices, how often a number is one of them, and where it stands.
-use Rattle.std.proofs.Common.{◌≡◌, ℕ, zero, suc, ◌+◌, ◌*◌, ◌<◌, ◌≤◌, min, max, Bool, true, false, cond, eqb, ltb, ◌⊎◌, List, [], ◌∷◌, ◌++◌, length, get_or, sym, refl, ap, ◌∙◌, ap₂, inl, inr, arith}
-use Rattle.std.proofs.lemmas.Bool.{cases_Bool, cases_eq, cases_lt, lt-ltb, le-ltb, false≢true, or_left, or_right, eq-eqb, ne_eqb, cond-true, cond-false}
+use Rattle.std.proofs.Common.{◌≡◌, ℕ, zero, suc, ◌+◌, ◌*◌, ◌<◌, ◌≤◌, Bool, true, false, cond, eqb, ltb, List, [], ◌∷◌, ◌++◌, length, get_or, sym, refl, ap, ◌∙◌, ap₂, inl, inr, arith}
+use Rattle.std.proofs.lemmas.Bool.{cases_lt, lt-ltb, le-ltb, false≢true, or_left, or_right, eq-eqb, ne_eqb, cond-true, cond-false, true_from_ne_false, false_from_ne_true}
+use Rattle.std.proofs.lemmas.Bool.Decides.{nat_tests}
 use Rattle.std.proofs.lemmas.List.{append_assoc}
-use Rattle.std.proofs.lemmas.Bool.Decides.{nat_tests, eqb_tells}
+use Rattle.std.proofs.lemmas.List.Folds.{list_any_at}
 use Rattle.pattern.specs.Lists.{upto, keep, occurs, position, each, sum, least, greatest}
-use Rattle.pattern.proofs.Lists.{in_upto, sum_append, keep_append, keep_none}
+use Rattle.pattern.proofs.Lists.{in_upto, sum_append, keep_append, keep_none, occurs_here}
 use Rattle.pattern.proofs.Sums.{sum_exchange}
 use Rattle.pattern.proofs.Tests.{Vertex}
 
@@ -12,50 +13,37 @@ use Rattle.pattern.proofs.Tests.{Vertex}
 abbrev pub bit : Bool → ℕ
 bit b = cond b 1 0
 
+-- how often v is one of xs
+abbrev pub tally : ℕ → List ℕ → ℕ
+tally v xs = sum (λ y. bit (eqb y v)) xs
+
 pub bit_bound : (b : Bool) → bit b ≤ 1
 bit_bound true = omega arith
 bit_bound false = omega arith
-
-pub sum_plus : (f g : ℕ → ℕ) (xs : List ℕ) → sum (λ x. f x + g x) xs ≡ sum f xs + sum g xs
-unfolding sum
-sum_plus f g [] = omega arith
-sum_plus f g (x ∷ xs) = let i = sum_plus f g xs in omega arith
 
 -- the sums of two functions that agree on the list
 pub sum_same : (f g : ℕ → ℕ) (xs : List ℕ) → ((x : ℕ) → occurs x xs ≡ true → f x ≡ g x) → sum f xs ≡ sum g xs
 unfolding sum occurs
 sum_same f g [] same = refl
 sum_same f g (x ∷ xs) same =
-    ap₂ ◌+◌ (same x (or_left _ _ (eq-eqb x x refl))) (sum_same f g xs (λ y o. same y (or_right _ _ o)))
+    ap₂ ◌+◌ (same x (occurs_here x xs)) (sum_same f g xs (λ y o. same y (or_right _ _ o)))
 
 pub sum_zero : (f : ℕ → ℕ) (xs : List ℕ) → ((x : ℕ) → occurs x xs ≡ true → f x ≡ 0) → sum f xs ≡ 0
 unfolding sum occurs
 sum_zero f [] none = refl
 sum_zero f (x ∷ xs) none =
-    let i = sum_zero f xs (λ y o. none y (or_right _ _ o)) in
-    let e = none x (or_left _ _ (eq-eqb x x refl)) in
-    omega arith
+    omega (arith, sum_zero f xs (λ y o. none y (or_right _ _ o)), none x (occurs_here x xs))
 
 pub sum_keep : (f : ℕ → ℕ) (test : ℕ → Bool) (xs : List ℕ) → sum f (keep test xs) ≡ sum (λ x. cond (test x) (f x) 0) xs
 unfolding sum keep
 sum_keep f test [] = refl
-sum_keep f test (x ∷ xs) = go (test x) (sum_keep f test xs)
-  where
-    go : (t : Bool) → sum f (keep test xs) ≡ sum (λ x. cond (test x) (f x) 0) xs →
-        sum f (cond t (x ∷ keep test xs) (keep test xs)) ≡ cond t (f x) 0 + sum (λ x. cond (test x) (f x) 0) xs
-    go true i = omega arith
-    go false i = omega arith
+sum_keep f test (x ∷ xs) = let i = sum_keep f test xs in grind arith
 
 pub sum_scale : (test : ℕ → Bool) (k : ℕ) (xs : List ℕ) →
     sum (λ x. cond (test x) k 0) xs ≡ sum (λ x. bit (test x)) xs * k
 unfolding sum
 sum_scale test k [] = omega arith
-sum_scale test k (x ∷ xs) = go (test x) (sum_scale test k xs)
-  where
-    go : (t : Bool) → sum (λ x. cond (test x) k 0) xs ≡ sum (λ x. bit (test x)) xs * k →
-        cond t k 0 + sum (λ x. cond (test x) k 0) xs ≡ (bit t + sum (λ x. bit (test x)) xs) * k
-    go true i = omega arith
-    go false i = omega arith
+sum_scale test k (x ∷ xs) = let i = sum_scale test k xs in grind arith
 
 pub sum_each : (f : ℕ → ℕ) (g : ℕ → List ℕ) (xs : List ℕ) → sum f (each g xs) ≡ sum (λ x. sum f (g x)) xs
 unfolding sum each
@@ -67,6 +55,16 @@ unfolding sum
 length_is_sum [] = refl
 length_is_sum (x ∷ xs) = let i = length_is_sum xs in omega arith
 
+pub tally_append : (v : ℕ) (xs ys : List ℕ) → tally v (xs ++ ys) ≡ tally v xs + tally v ys
+tally_append v xs ys = sum_append (λ y. bit (eqb y v)) xs ys
+
+-- of 1 to n at most n pass a test
+pub bits_fit : (test : ℕ → Bool) (n : ℕ) → sum (λ x. bit (test x)) (upto n) ≤ n
+unfolding upto sum
+bits_fit test zero = omega arith
+bits_fit test (suc n) =
+    omega (arith, bits_fit test n, bit_bound (test (suc n)), sum_append (λ x. bit (test x)) (upto n) (suc n ∷ []))
+
 -- a sum from 1 to n that counts only x
 pub sum_past : (n x : ℕ) (f : ℕ → ℕ) → n < x → sum (λ c. cond (eqb x c) (f c) 0) (upto n) ≡ 0
 sum_past n x f past = sum_zero _ (upto n) (λ c o.
@@ -76,35 +74,26 @@ pub sum_at : (n x : ℕ) (f : ℕ → ℕ) → 1 ≤ x → x ≤ n → sum (λ c
 unfolding upto sum
 sum_at zero x f low high = absurd (omega arith)
 sum_at (suc n) x f low high =
-    sum_append (λ c. cond (eqb x c) (f c) 0) (upto n) (suc n ∷ []) ∙ go (cases_eq x (suc n)) (sum_at n x f low)
-  where
-    go : (x ≡ suc n) ⊎ (x ≡ suc n → ⊥) → (x ≤ n → sum (λ c. cond (eqb x c) (f c) 0) (upto n) ≡ f x) →
-        sum (λ c. cond (eqb x c) (f c) 0) (upto n) + (cond (eqb x (suc n)) (f (suc n)) 0 + 0) ≡ f x
-    go (inl e) i =
-        let p = sum_past n x f (omega arith) in
-        let c = cond-true (eqb x (suc n)) (f (suc n)) 0 (eq-eqb x (suc n) e) in
-        let d = ap f e in
-        omega arith
-    go (inr e) i =
-        let c = cond-false (eqb x (suc n)) (f (suc n)) 0 (ne_eqb x (suc n) e) in
-        let d = i (omega arith) in
-        omega arith
+    let a = sum_append (λ c. cond (eqb x c) (f c) 0) (upto n) (suc n ∷ []) in
+    let p = sum_past n x f in
+    let i = sum_at n x f low in
+    grind (arith, nat_tests)
 
 -- a test that only numbers from 1 to n pass, counted over them, is counted at most once for each member
 pub length_by_values : (n : ℕ) (xs : List ℕ) → ((x : ℕ) → occurs x xs ≡ true → Vertex n x) →
-    sum (λ x. sum (λ y. bit (eqb y x)) xs) (upto n) ≡ length xs
+    sum (λ x. tally x xs) (upto n) ≡ length xs
 length_by_values n xs inside =
     sum_exchange (λ x y. bit (eqb y x)) (upto n) xs
     ∙ sum_same _ (λ _. 1) xs (λ y o. let h = inside y o in sum_at n y (λ _. 1) h.named h.fits)
     ∙ sym (length_is_sum xs)
 
 -- a number is a member exactly when it is counted
-pub occurs_counted : (v : ℕ) (xs : List ℕ) → occurs v xs ≡ true → 1 ≤ sum (λ y. bit (eqb y v)) xs
+pub occurs_counted : (v : ℕ) (xs : List ℕ) → occurs v xs ≡ true → 1 ≤ tally v xs
 unfolding occurs sum
 occurs_counted v [] o = absurd (false≢true o)
 occurs_counted v (x ∷ xs) o = let i = occurs_counted v xs in grind (arith, nat_tests)
 
-pub occurs_uncounted : (v : ℕ) (xs : List ℕ) → occurs v xs ≡ false → sum (λ y. bit (eqb y v)) xs ≡ 0
+pub occurs_uncounted : (v : ℕ) (xs : List ℕ) → occurs v xs ≡ false → tally v xs ≡ 0
 unfolding occurs sum
 occurs_uncounted v [] o = refl
 occurs_uncounted v (x ∷ xs) o = let i = occurs_uncounted v xs in grind (arith, nat_tests)
@@ -125,30 +114,20 @@ pub position_right : (v : ℕ) (xs ys : List ℕ) → occurs v xs ≡ false → 
 unfolding occurs position
 position_right v [] ys o h = omega arith
 position_right v (x ∷ xs) ys o h =
-    let i = position_right v xs ys in
-    let b = position_bounds v ys h in
-    grind (arith, nat_tests)
+    grind (arith, nat_tests, position_right v xs ys, position_bounds v ys h)
 
-pub occurs_from_count : (v : ℕ) (xs : List ℕ) → 1 ≤ sum (λ y. bit (eqb y v)) xs → occurs v xs ≡ true
-occurs_from_count v xs l = go (cases_Bool (occurs v xs))
-  where
-    go : (occurs v xs ≡ true) ⊎ (occurs v xs ≡ false) → occurs v xs ≡ true
-    go (inl o) = o
-    go (inr o) = absurd (let z = occurs_uncounted v xs o in omega arith)
+pub occurs_from_count : (v : ℕ) (xs : List ℕ) → 1 ≤ tally v xs → occurs v xs ≡ true
+occurs_from_count v xs l = true_from_ne_false _ (λ o. omega (arith, occurs_uncounted v xs o))
 
-pub absent_from_count : (v : ℕ) (xs : List ℕ) → sum (λ y. bit (eqb y v)) xs ≡ 0 → occurs v xs ≡ false
-absent_from_count v xs z = go (cases_Bool (occurs v xs))
-  where
-    go : (occurs v xs ≡ true) ⊎ (occurs v xs ≡ false) → occurs v xs ≡ false
-    go (inl o) = absurd (let l = occurs_counted v xs o in omega arith)
-    go (inr o) = o
+pub absent_from_count : (v : ℕ) (xs : List ℕ) → tally v xs ≡ 0 → occurs v xs ≡ false
+absent_from_count v xs z = false_from_ne_true _ (λ o. omega (arith, occurs_counted v xs o))
 
 -- where v stands in a list that holds it once
-pub position_here : (v : ℕ) (xs ys : List ℕ) → sum (λ y. bit (eqb y v)) (xs ++ v ∷ ys) ≤ 1 →
+pub position_here : (v : ℕ) (xs ys : List ℕ) → tally v (xs ++ v ∷ ys) ≤ 1 →
     position v (xs ++ v ∷ ys) ≡ suc (length xs)
 unfolding sum occurs position
 position_here v xs ys l =
-    let a = sum_append (λ y. bit (eqb y v)) xs (v ∷ ys) in
+    let a = tally_append v xs (v ∷ ys) in
     let e = eq-eqb v v refl in
     let b : bit (eqb v v) ≡ 1 = ap bit e in
     let o = absent_from_count v xs (omega arith) in
@@ -158,11 +137,9 @@ position_here v xs ys l =
 
 pub occurs_get_or : (xs : List ℕ) (k d : ℕ) → k < length xs → occurs (get_or xs k d) xs ≡ true
 unfolding occurs
-occurs_get_or [] k d l = absurd (omega arith)
-occurs_get_or (x ∷ xs) zero d l = or_left _ _ (eq-eqb x x refl)
-occurs_get_or (x ∷ xs) (suc k) d l = or_right _ _ (occurs_get_or xs k d (omega arith))
+occurs_get_or xs k d l = list_any_at (λ x. eqb x (get_or xs k d)) xs k d l (eq-eqb _ _ refl)
 
-pub position_get_or : (xs : List ℕ) (k d : ℕ) → k < length xs → sum (λ y. bit (eqb y (get_or xs k d))) xs ≤ 1 →
+pub position_get_or : (xs : List ℕ) (k d : ℕ) → k < length xs → tally (get_or xs k d) xs ≤ 1 →
     position (get_or xs k d) xs ≡ suc k
 unfolding sum position
 position_get_or [] k d l o = absurd (omega arith)
@@ -176,59 +153,40 @@ position_get_or (x ∷ xs) (suc k) d l o =
 pub keep_swap : (s t : ℕ → Bool) (xs : List ℕ) → keep s (keep t xs) ≡ keep t (keep s xs)
 unfolding keep
 keep_swap s t [] = refl
-keep_swap s t (x ∷ xs) = go (s x) (t x) refl refl (keep_swap s t xs)
-  where
-    go : (a b : Bool) → s x ≡ a → t x ≡ b → keep s (keep t xs) ≡ keep t (keep s xs) →
-        keep s (cond b (x ∷ keep t xs) (keep t xs)) ≡ keep t (cond a (x ∷ keep s xs) (keep s xs))
-    go true true e f i = rw (e, f) (ap (◌∷◌ x) i)
-    go true false e f i = rw f i
-    go false true e f i = rw e i
-    go false false e f i = i
+keep_swap s t (x ∷ xs) = let i = keep_swap s t xs in grind arith
 
 -- 1 to n cut at c: those below c, c, and those above it
 pub upto_cut : (n c : ℕ) → suc c ≤ n → upto n ≡ upto c ++ suc c ∷ keep (λ d. ltb (suc c) d) (upto n)
 unfolding upto keep
 upto_cut zero c l = absurd (omega arith)
-upto_cut (suc n) c l = go (cases_lt c n) (upto_cut n c)
-  where
-    go : (c < n) ⊎ (n ≤ c) → (suc c ≤ n → upto n ≡ upto c ++ suc c ∷ keep (λ d. ltb (suc c) d) (upto n)) →
-        upto n ++ suc n ∷ [] ≡ upto c ++ suc c ∷ keep (λ d. ltb (suc c) d) (upto n ++ suc n ∷ [])
-    go (inl m) i = rw (keep_append (λ d. ltb (suc c) d) (upto n) (suc n ∷ []), lt-ltb (suc c) (suc n) (omega arith))
-        (ap (λ l. l ++ suc n ∷ []) (i m) ∙ append_assoc (upto c) _ _)
-    go (inr m) i =
-        let e : c ≡ n = omega arith in
-        rw (
-          e,
-          keep_none (λ d. ltb (suc n) d) (upto n ++ suc n ∷ []) (λ d o.
-              le-ltb (suc n) d (let h = (in_upto (suc n) d (unfold upto in o)).fits in omega arith)),
-        ) refl
+upto_cut (suc n) c l =
+    elim (cases_lt c n) [
+      | inl m ↦
+          rw (keep_append (λ d. ltb (suc c) d) (upto n) (suc n ∷ []), lt-ltb (suc c) (suc n) (omega arith))
+          (ap (λ l. l ++ suc n ∷ []) (upto_cut n c m) ∙ append_assoc (upto c) _ _)
+      | inr m ↦
+          let e : c ≡ n = omega arith in
+          rw (
+            e,
+            keep_none (λ d. ltb (suc n) d) (upto n ++ suc n ∷ []) (λ d o.
+                le-ltb (suc n) d (let h = (in_upto (suc n) d (unfold upto in o)).fits in omega arith)),
+          ) refl
+    ]
 
 -- the least and the greatest value over a list
 pub least_le : (b : ℕ) (f : ℕ → ℕ) (xs : List ℕ) (x : ℕ) → occurs x xs ≡ true → least b f xs ≤ f x
 unfolding least occurs
 least_le b f [] x o = absurd (false≢true o)
-least_le b f (y ∷ xs) x o = go (eqb_tells y x) (least_le b f xs x)
-  where
-    go : ((eqb y x ≡ true) × (y ≡ x)) ⊎ ((eqb y x ≡ false) × (y ≡ x → ⊥)) →
-        (occurs x xs ≡ true → least b f xs ≤ f x) → min (f y) (least b f xs) ≤ f x
-    go (inl (_, s)) i = let e = ap f s in omega arith
-    go (inr (e, _)) i = let h = i (rw e at o) in omega arith
+least_le b f (y ∷ xs) x o = let i = least_le b f xs x in grind (arith, nat_tests)
 
 pub least_ge : (b : ℕ) (f : ℕ → ℕ) (xs : List ℕ) (a : ℕ) → a ≤ b → ((x : ℕ) → occurs x xs ≡ true → a ≤ f x) →
     a ≤ least b f xs
 unfolding least occurs
 least_ge b f [] a l all = l
 least_ge b f (y ∷ xs) a l all =
-    let i = least_ge b f xs a l (λ x o. all x (or_right _ _ o)) in
-    let h = all y (or_left _ _ (eq-eqb y y refl)) in
-    omega arith
+    omega (arith, least_ge b f xs a l (λ x o. all x (or_right _ _ o)), all y (occurs_here y xs))
 
 pub greatest_ge : (f : ℕ → ℕ) (xs : List ℕ) (x : ℕ) → occurs x xs ≡ true → f x ≤ greatest f xs
 unfolding greatest occurs
 greatest_ge f [] x o = absurd (false≢true o)
-greatest_ge f (y ∷ xs) x o = go (eqb_tells y x) (greatest_ge f xs x)
-  where
-    go : ((eqb y x ≡ true) × (y ≡ x)) ⊎ ((eqb y x ≡ false) × (y ≡ x → ⊥)) →
-        (occurs x xs ≡ true → f x ≤ greatest f xs) → f x ≤ max (f y) (greatest f xs)
-    go (inl (_, s)) i = let e = ap f s in omega arith
-    go (inr (e, _)) i = let h = i (rw e at o) in omega arith
+greatest_ge f (y ∷ xs) x o = let i = greatest_ge f xs x in grind (arith, nat_tests)

@@ -18,6 +18,7 @@ use Rattle.pattern.proofs.Tests.{within_parts}
 use Rattle.pattern.proofs.Paths.{fill_way, way_fill}
 use Rattle.pattern.proofs.Lined.{listed_way, way_of, front_low, low_front}
 use Rattle.pattern.proofs.Tree.{below_way, way_below, parent_is}
+use Rattle.pattern.proofs.Counting.{counted_by_rows}
 use Rattle.pattern.proofs.Rows.{
   in_row,
   row_has,
@@ -28,7 +29,6 @@ use Rattle.pattern.proofs.Rows.{
   fill_by_children,
   children_fill,
   sharing_fill,
-  counted_by_rows,
   keeps,
   listed_more,
 }

@@ -1,16 +1,16 @@
 -- The tops of the pass by place: at first each vertex itself, at the end its root, in between the meeting vertices.
-use Rattle.std.proofs.Common.{◌≡◌, ℕ, suc, ◌-◌, ◌<◌, ◌≤◌, true, false, cond, not, ◌&&◌, ◌||◌, eqb, ltb, ◌⊎◌, sym, ap, ◌∙◌, inl, inr, arith}
-use Rattle.std.proofs.lemmas.Bool.{cases_Bool, cases_eq, cases_lt, both_ways, and_left, and_right, and_from, or_left, or_right, or_from, cond-true, cond-false, lt-ltb, le-ltb, eq-eqb, ne_eqb}
+use Rattle.std.proofs.Common.{◌≡◌, ℕ, suc, ◌-◌, ◌<◌, ◌≤◌, true, false, cond, not, ◌&&◌, ◌||◌, eqb, ltb, sym, ap, ◌∙◌, inl, inr, arith}
+use Rattle.std.proofs.lemmas.Bool.{cases_eq, cases_lt, both_ways, and_left, and_from, or_left, or_right, or_from, cond-true, cond-false, lt-ltb, le-ltb, eq-eqb, ne_eqb, false_from_ne_true}
+use Rattle.std.proofs.lemmas.Bool.Decides.{nat_tests}
 use Rattle.pattern.specs.Lists.{first}
 use Rattle.pattern.specs.Forest.{Grows, under, place}
 use Rattle.pattern.specs.Meets.{meet}
 use Rattle.pattern.specs.Tops.{root, top_after}
 use Rattle.pattern.proofs.Tests.{Vertex}
 use Rattle.pattern.proofs.Lines.{under_self}
-use Rattle.pattern.proofs.Forest.{from_parents, line_more, under_none, under_once, under_parent}
+use Rattle.pattern.proofs.Forest.{from_parents, line_more, under_none, under_once, under_parent, parent_vertex}
 use Rattle.pattern.proofs.Places.{place_bounds, place_apart, place_rises, block}
 use Rattle.pattern.proofs.Tallies.{bit}
-use Rattle.std.proofs.lemmas.Bool.Decides.{nat_tests}
 use Rattle.pattern.proofs.Meets.{meet_here, meet_higher}
 
 module _ (n : ℕ) (up : ℕ → ℕ) (grows : Grows n up) where
@@ -38,23 +38,19 @@ module _ (n : ℕ) (up : ℕ → ℕ) (grows : Grows n up) where
   pub top_at_first : (x : ℕ) → Vertex n x → top_after n up 0 x ≡ x
   top_at_first x h = top_here 0 x h (place_bounds n up grows x h).0
 
-  parent_vertex : (x : ℕ) → Vertex n x → 1 ≤ up x → Vertex n (up x)
-  parent_vertex x h l = record { named = l; fits = grows.stays x h.named h.fits }
-
   -- after the last place it is the root
   pub top_at_last : (x : ℕ) → x ≤ n → 1 ≤ x → top_after n up n x ≡ root n up x
   top_at_last = from_parents n up grows (λ x. 1 ≤ x → top_after n up n x ≡ root n up x)
       (λ l. absurd (omega arith))
-      (λ x h i l. go x h i (cases_lt 0 (up x)))
-    where
-      go : (x : ℕ) → Vertex n x → (1 ≤ up x → top_after n up n (up x) ≡ root n up (up x)) → (0 < up x) ⊎ (up x ≤ 0) →
-          top_after n up n x ≡ root n up x
-      go x h i (inl more) =
-          top_higher n x h (place_bounds n up grows x h).1 more ∙ i more
-          ∙ sym (root_more x h ∙ cond-false _ _ _ (ne_eqb (up x) 0 (λ e. omega arith)))
-      go x h i (inr none) =
-          let e : up x ≡ 0 = omega arith in
-          top_root n x h e ∙ sym (root_more x h ∙ cond-true _ _ _ (eq-eqb (up x) 0 e))
+      (λ x h i l.
+      elim (cases_lt 0 (up x)) [
+        | inl more ↦
+            top_higher n x h (place_bounds n up grows x h).1 more ∙ i more
+            ∙ sym (root_more x h ∙ cond-false _ _ _ (ne_eqb (up x) 0 (λ e. omega arith)))
+        | inr none ↦
+            let e : up x ≡ 0 = omega arith in
+            top_root n x h e ∙ sym (root_more x h ∙ cond-true _ _ _ (eq-eqb (up x) 0 e))
+      ])
 
   -- passing z redirects just the tops that are z to its parent, if it has one
   pub top_step : (t z : ℕ) → Vertex n z → place n up z ≡ suc t → (x : ℕ) → x ≤ n → 1 ≤ x →
@@ -62,42 +58,43 @@ module _ (n : ℕ) (up : ℕ → ℕ) (grows : Grows n up) where
       ≡ cond (eqb (top_after n up t x) z && not (eqb (up z) 0)) (up z) (top_after n up t x)
   top_step t z g at = from_parents n up grows (λ x. 1 ≤ x → top_after n up (suc t) x ≡ next (top_after n up t x))
       (λ l. absurd (omega arith))
-      (λ x h i l. go x h i (cases_lt t (place n up x)) (cases_lt 0 (up x)))
+      (λ x h i l.
+      elim (cases_lt 0 (up x)) [
+        | inr none ↦
+            let e : up x ≡ 0 = omega arith in
+            top_root (suc t) x h e ∙ root_stays x e ∙ ap next (sym (top_root t x h e))
+        | inl more ↦
+            elim (cases_lt t (place n up x)) [
+              | inl later ↦ now x h later more
+              | inr passed ↦
+                  top_higher (suc t) x h (omega arith) more ∙ i more ∙ ap next (sym (top_higher t x h passed more))
+            ]
+      ])
     where
       next : ℕ → ℕ
       next y = cond (eqb y z && not (eqb (up z) 0)) (up z) y
 
-      other : (x : ℕ) → (x ≡ z → ⊥) → next x ≡ x
-      other x d = cond-false _ _ _ (and_left _ _ (ne_eqb x z d))
+      root_stays : (x : ℕ) → up x ≡ 0 → x ≡ next x
+      root_stays x e = grind (arith, nat_tests)
 
-      go : (x : ℕ) → Vertex n x → (1 ≤ up x → top_after n up (suc t) (up x) ≡ next (top_after n up t (up x))) →
-          (t < place n up x) ⊎ (place n up x ≤ t) → (0 < up x) ⊎ (up x ≤ 0) →
+      now : (x : ℕ) → Vertex n x → t < place n up x → 1 ≤ up x →
           top_after n up (suc t) x ≡ next (top_after n up t x)
-      go x h i (inr passed) (inl more) =
-          top_higher (suc t) x h (omega arith) more ∙ i more ∙ ap next (sym (top_higher t x h passed more))
-      go x h i p (inr none) =
-          let e : up x ≡ 0 = omega arith in
-          top_root (suc t) x h e ∙ root-stays e (cases_eq x z) ∙ ap next (sym (top_root t x h e))
-        where
-          root-stays : up x ≡ 0 → (x ≡ z) ⊎ (x ≡ z → ⊥) → x ≡ next x
-          root-stays e (inl s) =
-              sym (cond-false _ _ _ (and_right (eqb x z) _ (ap not (eq-eqb (up z) 0 (ap up (sym s) ∙ e)))))
-          root-stays e (inr d) = sym (other x d)
-      go x h i (inl later) (inl more) = now (cases_eq x z)
-        where
-          now : (x ≡ z) ⊎ (x ≡ z → ⊥) → top_after n up (suc t) x ≡ next (top_after n up t x)
-          now (inl s) =
-              let e = ap (place n up) s in
-              let r = place_rises n up grows x h more in
-              top_higher (suc t) x h (omega arith) more
-              ∙ top_here (suc t) (up x) (parent_vertex x h more) (omega arith)
-              ∙ ap up s
-              ∙ sym (ap next (top_here t x h later)
-              ∙ cond-true _ _ _
-              (and_from _ _ (eq-eqb x z s) (ap not (ne_eqb (up z) 0 (λ e. let f = ap up s in omega arith)))))
-          now (inr d) =
-              let ne : place n up x ≡ suc t → ⊥ = λ e. d (place_apart n up grows x z h g (e ∙ sym at)) in
-              top_here (suc t) x h (omega arith) ∙ sym (ap next (top_here t x h later) ∙ other x d)
+      now x h later more =
+          elim (cases_eq x z) [
+            | inl s ↦
+                let e = ap (place n up) s in
+                let r = place_rises n up grows x h more in
+                top_higher (suc t) x h (omega arith) more
+                ∙ top_here (suc t) (up x) (parent_vertex n up grows x h more) (omega arith)
+                ∙ ap up s
+                ∙ sym (ap next (top_here t x h later)
+                ∙ cond-true _ _ _
+                (and_from _ _ (eq-eqb x z s) (ap not (ne_eqb (up z) 0 (λ e. omega (arith, ap up s))))))
+            | inr d ↦
+                let ne : place n up x ≡ suc t → ⊥ = λ e. d (place_apart n up grows x z h g (e ∙ sym at)) in
+                top_here (suc t) x h (omega arith)
+                ∙ sym (ap next (top_here t x h later) ∙ cond-false _ _ _ (and_left _ _ (ne_eqb x z d)))
+          ]
 
   -- where two vertices with a common ancestor meet, the earlier has its top when the later is about to be passed
   pub top_meets : (y : ℕ) → Vertex n y → (a : ℕ) → under n up y a ≡ true → (x : ℕ) → x ≤ n →
@@ -105,71 +102,46 @@ module _ (n : ℕ) (up : ℕ → ℕ) (grows : Grows n up) where
   top_meets y g a ya = from_parents n up grows
       (λ x. under n up x a ≡ true → place n up x ≤ place n up y → top_after n up (place n up y - 1) x ≡ meet n up x y)
       (λ u l. absurd (both_ways _ (under_none n up grows a) u))
-      (λ x h i u l. go x h i u l (cases_eq x y) (cases_lt 0 (up x)))
-    where
-      go : (x : ℕ) → Vertex n x →
-          (under n up (up x) a ≡ true → place n up (up x) ≤ place n up y →
-          top_after n up (place n up y - 1) (up x) ≡ meet n up (up x) y) →
-          under n up x a ≡ true → place n up x ≤ place n up y →
-          (x ≡ y) ⊎ (x ≡ y → ⊥) → (0 < up x) ⊎ (up x ≤ 0) → top_after n up (place n up y - 1) x ≡ meet n up x y
-      go x h i u l (inl s) d =
-          let b = place_bounds n up grows x h in
-          let e = ap (place n up) s in
-          top_here (place n up y - 1) x h (omega arith)
-          ∙ sym (meet_here n up grows x y h (ap (λ z. under n up z x) (sym s) ∙ under_self n up grows x h))
-      go x h i u l (inr s) (inr none) =
-          let e : up x ≡ 0 = omega arith in
-          let c = under_once n up grows x a h in
-          let f = ap bit (ap (λ z. under n up z a) e ∙ under_none n up grows a) in
-          let k = ap bit u in
-          let same : x ≡ a = grind (arith, nat_tests) in
-          top_root (place n up y - 1) x h e
-          ∙ sym (meet_here n up grows x y h (ap (under n up y) same ∙ ya))
-      go x h i u l (inr s) (inl more) =
-          top_higher (place n up y - 1) x h (let q = less in omega arith) more
-          ∙ rise (cases_lt (place n up y) (place n up (up x)))
-          ∙ sym (meet_higher n up grows x y h off)
-        where
-          g' : Vertex n (up x)
-          g' = parent_vertex x h more
-
-          less : place n up x < place n up y
-          less = let d : place n up x ≡ place n up y → ⊥ = λ e. s (place_apart n up grows x y h g e) in omega arith
-
-          off : under n up y x ≡ false
-          off = not-under (cases_Bool (under n up y x))
-            where
-              not-under : (under n up y x ≡ true) ⊎ (under n up y x ≡ false) → under n up y x ≡ false
-              not-under (inl b) =
-                  let c = block n up grows x h in
-                  let d = c.inner y b in
-                  let e = c.last in
-                  let q = less in
-                  absurd (omega arith)
-              not-under (inr b) = b
-
-          ahead : under n up (up x) a ≡ true
-          ahead = up-there (cases_eq x a) (cases_Bool (under n up (up x) a))
-            where
-              up-there : (x ≡ a) ⊎ (x ≡ a → ⊥) → (under n up (up x) a ≡ true) ⊎ (under n up (up x) a ≡ false) →
-                  under n up (up x) a ≡ true
-              up-there d (inl b) = b
-              up-there (inl e) (inr b) = absurd (both_ways _ off (ap (under n up y) e ∙ ya))
-              up-there (inr d) (inr b) =
+      (λ x h i u l.
+      elim (cases_eq x y) [
+        | inl s ↦
+            let b = place_bounds n up grows x h in
+            let e = ap (place n up) s in
+            top_here (place n up y - 1) x h (omega arith)
+            ∙ sym (meet_here n up grows x y h (ap (λ z. under n up z x) (sym s) ∙ under_self n up grows x h))
+        | inr s ↦
+            elim (cases_lt 0 (up x)) [
+              | inr none ↦
+                  let e : up x ≡ 0 = omega arith in
                   let c = under_once n up grows x a h in
+                  let f = ap bit (ap (λ z. under n up z a) e ∙ under_none n up grows a) in
                   let k = ap bit u in
-                  let m = ap bit b in
-                  let w = ne_eqb x a d in
-                  let q = ap bit w in
-                  absurd (omega arith)
-
-          rise : (place n up y < place n up (up x)) ⊎ (place n up (up x) ≤ place n up y) →
-              top_after n up (place n up y - 1) (up x) ≡ meet n up (up x) y
-          rise (inr before) = i ahead before
-          rise (inl past) =
-              let c = block n up grows (up x) g' in
-              let d = c.inner x (under_parent n up grows x h more) in
-              let e = c.last in
-              let q = less in
-              top_here (place n up y - 1) (up x) g' (omega arith)
-              ∙ sym (meet_here n up grows (up x) y g' (c.outer y g (omega arith) (omega arith)))
+                  let same : x ≡ a = grind (arith, nat_tests) in
+                  top_root (place n up y - 1) x h e
+                  ∙ sym (meet_here n up grows x y h (ap (under n up y) same ∙ ya))
+              | inl more ↦
+                  let q = parent_vertex n up grows x h more in
+                  let apart : place n up x ≡ place n up y → ⊥ = λ e. s (place_apart n up grows x y h g e) in
+                  let off = not_under x h (omega arith) in
+                  let c = under_once n up grows x a h in
+                  let ahead : under n up (up x) a ≡ true = grind (arith, nat_tests) in
+                  top_higher (place n up y - 1) x h (omega arith) more
+                  ∙ elim (cases_lt (place n up y) (place n up (up x))) [
+                    | inl past ↦
+                        let c = block n up grows (up x) q in
+                        let d = c.inner x (under_parent n up grows x h more) in
+                        let e = c.last in
+                        top_here (place n up y - 1) (up x) q (omega arith)
+                        ∙ sym (meet_here n up grows (up x) y q (c.outer y g (omega arith) (omega arith)))
+                    | inr before ↦ i ahead before
+                  ]
+                  ∙ sym (meet_higher n up grows x y h off)
+            ]
+      ])
+    where
+      not_under : (x : ℕ) → Vertex n x → place n up x < place n up y → under n up y x ≡ false
+      not_under x h less = false_from_ne_true _ (λ b.
+          let c = block n up grows x h in
+          let d = c.inner y b in
+          let e = c.last in
+          omega arith)

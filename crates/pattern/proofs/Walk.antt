@@ -1,14 +1,14 @@
 -- The walk: what it holds, and how it is cut at a vertex into what comes before, the subtree's walk, and what follows.
-use Rattle.std.proofs.Common.{◌≡◌, ℕ, zero, suc, ◌<◌, ◌≤◌, true, eqb, ltb, ◌⊎◌, List, [], ◌∷◌, ◌++◌, length, sym, refl, ap, ◌∙◌, inl, inr, arith}
+use Rattle.std.proofs.Common.{◌≡◌, ℕ, zero, suc, ◌≤◌, true, eqb, ltb, List, [], ◌∷◌, ◌++◌, length, sym, refl, ap, ◌∙◌, inl, inr, arith}
 use Rattle.std.proofs.lemmas.Bool.{cases_lt, cond-true, eq-eqb}
-use Rattle.std.proofs.lemmas.List.{append_assoc, append-nil}
 use Rattle.std.proofs.lemmas.Bool.Decides.{nat_tests}
+use Rattle.std.proofs.lemmas.List.{append_assoc, append-nil}
 use Rattle.pattern.specs.Lists.{upto, keep, sum, occurs, each}
 use Rattle.pattern.specs.Patterns.{within}
 use Rattle.pattern.specs.Forest.{Grows, under, children, visit, walk}
 use Rattle.pattern.specs.Walks.{size}
 use Rattle.pattern.proofs.Tests.{Vertex, within_parts, within_from, eqb_swap}
-use Rattle.pattern.proofs.Lists.{in_upto, length_upto, sum_append, each_append, keep_append}
+use Rattle.pattern.proofs.Lists.{in_upto, length_upto, each_append, keep_append}
 use Rattle.pattern.proofs.Forest.{
   from_parents,
   under_past,
@@ -20,6 +20,8 @@ use Rattle.pattern.proofs.Forest.{
 }
 use Rattle.pattern.proofs.Tallies.{
   bit,
+  tally,
+  tally_append,
   sum_same,
   sum_zero,
   sum_each,
@@ -42,11 +44,11 @@ whole n up = walk n up ++ 0 ∷ []
 module _ (n : ℕ) (up : ℕ → ℕ) (grows : Grows n up) where
   -- the walk of a subtree holds each of its vertices once, and nothing else
   pub visit_counts : (k v : ℕ) → Vertex n v → v ≤ k → (x : ℕ) →
-      sum (λ y. bit (eqb y x)) (visit n up k v) ≡ bit (under n up x v)
+      tally x (visit n up k v) ≡ bit (under n up x v)
   unfolding visit sum
   visit_counts zero v h l x = absurd (let m = h.named in omega arith)
   visit_counts (suc k) v h l x =
-      let a = sum_append (λ y. bit (eqb y x)) (each (visit n up k) (children n up v)) (v ∷ []) in
+      let a = tally_append x (each (visit n up k) (children n up v)) (v ∷ []) in
       let b = sum_each (λ y. bit (eqb y x)) (visit n up k) (children n up v) in
       let c = sum_same _ (λ c. bit (under n up x c)) (children n up v) (λ c o.
       let (g, e) = in_children n up grows c v o in
@@ -58,9 +60,7 @@ module _ (n : ℕ) (up : ℕ → ℕ) (grows : Grows n up) where
 
   pub in_visit : (k v : ℕ) → Vertex n v → v ≤ k → (x : ℕ) → occurs x (visit n up k v) ≡ true → under n up x v ≡ true
   in_visit k v h l x o =
-      let a = visit_counts k v h l x in
-      let b = occurs_counted x (visit n up k v) o in
-      grind (arith, nat_tests)
+      grind (arith, nat_tests, visit_counts k v h l x, occurs_counted x (visit n up k v) o)
 
   pub length_visit : (k v : ℕ) → Vertex n v → v ≤ k → length (visit n up k v) ≡ size n up v
   length_visit k v h l =
@@ -68,21 +68,19 @@ module _ (n : ℕ) (up : ℕ → ℕ) (grows : Grows n up) where
       ∙ sum_same _ _ (upto n) (λ x o. visit_counts k v h l x)
       ∙ sym (size_counts n up grows v)
 
-  pub walk_counts : (x : ℕ) → sum (λ y. bit (eqb y x)) (walk n up) ≡ bit (within n x)
+  pub walk_counts : (x : ℕ) → tally x (walk n up) ≡ bit (within n x)
   unfolding walk within
   walk_counts x =
       let b = sum_each (λ y. bit (eqb y x)) (visit n up n) (children n up 0) in
       let c = sum_same _ (λ c. bit (under n up x c)) (children n up 0) (λ c o.
       let g = (in_children n up grows c 0 o).0 in visit_counts n c g g.fits x) in
-      go (b ∙ c) (cases_lt n x)
-    where
-      go : sum (λ y. bit (eqb y x)) (each (visit n up n) (children n up 0))
-          ≡ sum (λ c. bit (under n up x c)) (children n up 0) → (n < x) ⊎ (x ≤ n) →
-          sum (λ y. bit (eqb y x)) (each (visit n up n) (children n up 0)) ≡ bit (within n x)
-      go e (inl past) =
-          let a = sum_zero _ (children n up 0) (λ c o. ap bit (under_past n up grows x c past)) in
-          grind (arith, nat_tests)
-      go e (inr h) = let a = under_by_roots n up grows x h in grind (arith, nat_tests)
+      elim (cases_lt n x) [
+        | inl past ↦
+            let a = sum_zero (λ c. bit (under n up x c)) (children n up 0)
+            (λ c o. ap bit (under_past n up grows x c past)) in
+            grind (arith, nat_tests)
+        | inr h ↦ let a = under_by_roots n up grows x h in grind (arith, nat_tests)
+      ]
 
   pub in_walk : (x : ℕ) → occurs x (walk n up) ≡ true → Vertex n x
   in_walk x o =
@@ -91,7 +89,7 @@ module _ (n : ℕ) (up : ℕ → ℕ) (grows : Grows n up) where
       let w : within n x ≡ true = grind (arith, nat_tests) in
       within_parts n x w
 
-  pub walk_once : (x : ℕ) → Vertex n x → sum (λ y. bit (eqb y x)) (walk n up) ≡ 1
+  pub walk_once : (x : ℕ) → Vertex n x → tally x (walk n up) ≡ 1
   walk_once x h = walk_counts x ∙ ap bit (within_from n x h)
 
   pub on_walk : (x : ℕ) → Vertex n x → occurs x (walk n up) ≡ true
@@ -103,12 +101,10 @@ module _ (n : ℕ) (up : ℕ → ℕ) (grows : Grows n up) where
       ∙ sum_same _ (λ _. 1) (upto n) (λ x o. walk_once x (in_upto n x o))
       ∙ sym (length_is_sum (upto n)) ∙ length_upto n
 
-  pub whole_once : (x : ℕ) → x ≤ n → sum (λ y. bit (eqb y x)) (whole n up) ≡ 1
+  pub whole_once : (x : ℕ) → x ≤ n → tally x (whole n up) ≡ 1
   unfolding whole sum within
   whole_once x h =
-      let a = sum_append (λ y. bit (eqb y x)) (walk n up) (0 ∷ []) in
-      let b = walk_counts x in
-      grind (arith, nat_tests)
+      grind (arith, nat_tests, tally_append x (walk n up) (0 ∷ []), walk_counts x)
 
   -- the children of a parent cut at one of them
   children_cut : (c : ℕ) → Vertex n c → (front : List ℕ) × (children n up (up c) ≡ front ++ c ∷ above n up (up c) c)

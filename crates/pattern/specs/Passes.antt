@@ -1,7 +1,8 @@
 -- The one pass over the vertices by place that finds row counts and weights. An event (x, u) is that x is met as a
 -- lower neighbour of u. Events are listed from the newest to the oldest, so each definition says what one event more
 -- changes.
-use Rattle.std.specs.Prelude.{◌≡◌, ℕ, ◌+◌, ◌-◌, ◌<◌, Bool, true, false, cond, ◌&&◌, ◌||◌, List, [], ◌∷◌, length, ℤ, pos, ◌+ℤ◌, ◌-ℤ◌, ◌==◌, nat_le}
+use Rattle.std.specs.Prelude.{◌≡◌, ℕ, ◌+◌, ◌-◌, ◌<◌, Bool, true, cond, ◌&&◌, List, [], ◌∷◌, length, ℤ, pos, ◌+ℤ◌, ◌-ℤ◌, ◌==◌, nat_le}
+use Rattle.std.specs.List.{list_any}
 use Rattle.pattern.specs.Patterns.{Pattern, shares}
 use Rattle.pattern.specs.Elimination.{parent}
 use Rattle.pattern.specs.Forest.{children}
@@ -10,8 +11,7 @@ use Rattle.pattern.specs.Counts.{meet_of}
 
 -- whether x was met as a lower neighbour of u
 unfoldable pub happened : ℕ → ℕ → List (ℕ × ℕ) → Bool
-happened x u [] = false
-happened x u (e ∷ es) = (e.0 == x && e.1 == u) || happened x u es
+happened x u es = list_any (λ e. e.0 == x && e.1 == u) es
 
 -- the lower neighbour of u that was met last, or 0
 unfoldable pub last_met : ℕ → List (ℕ × ℕ) → ℕ

@@ -1,5 +1,6 @@
 -- Paths as lists of vertices, and the fill told by them.
 use Rattle.std.specs.Prelude.{◌≡◌, ℕ, ◌<◌, ◌≤◌, Bool, true, ◌&&◌, ◌↔◌, List, [], ◌∷◌, length, nat_lt}
+use Rattle.std.specs.List.{list_all}
 use Rattle.pattern.specs.Patterns.{Pattern, shares}
 use Rattle.pattern.specs.Elimination.{fill}
 
@@ -26,8 +27,7 @@ inner (x ∷ l) = front l
 
 -- all of them are numbered under m
 unfoldable pub all_under : ℕ → List ℕ → Bool
-all_under m [] = true
-all_under m (x ∷ l) = nat_lt x m && all_under m l
+all_under m l = list_all (λ x. nat_lt x m) l
 
 -- each two in succession share an entry
 unfoldable pub linked : Pattern → List ℕ → Bool
