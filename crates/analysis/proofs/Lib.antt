@@ -1,4 +1,5 @@
 pub mod Changes
+mod Fronts
 pub mod Chains
 pub mod Passes
 pub mod Gathers

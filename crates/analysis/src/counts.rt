@@ -200,7 +200,7 @@ pub fn count<S: AncestorSets>(n: u32, vertices: &mut [Vertex], entries: &[Entry]
     begin_counts(n, vertices);
     take_children(n, vertices);
     count_walk(n, vertices, entries, sets);
-    gather::<Weight, Vertex>(vertices, n);
+    gather::<Weight, Vertex>(&mut vertices[..n as usize]);
 }
 
 // The column count of a vertex, once the weights are gathered.

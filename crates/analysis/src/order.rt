@@ -64,7 +64,7 @@ fn sizes(n: u32, vertices: &mut [Vertex])
     ensures past { SamePast n vertices.old vertices.new }
 {
     begin_sizes(n, vertices);
-    gather::<Weight, Vertex>(vertices, n);
+    gather::<Weight, Vertex>(&mut vertices[..n as usize]);
 }
 
 // The number of vertices in the subtree, once the sizes are gathered.
@@ -181,7 +181,7 @@ fn first_places(n: u32, vertices: &mut [Vertex])
     ensures past { SamePast n vertices.old vertices.new }
 {
     begin_firsts(n, vertices);
-    gather::<LeastPlace, Vertex>(vertices, n);
+    gather::<LeastPlace, Vertex>(&mut vertices[..n as usize]);
 }
 
 // Each vertex's own level, to be gathered.
@@ -204,7 +204,7 @@ fn depths(n: u32, vertices: &mut [Vertex])
     ensures past { SamePast n vertices.old vertices.new }
 {
     begin_depths(n, vertices);
-    gather::<GreatestLevel, Vertex>(vertices, n);
+    gather::<GreatestLevel, Vertex>(&mut vertices[..n as usize]);
 }
 
 // All that the tree alone gives: levels, places, the walk by place, first places and greatest levels.

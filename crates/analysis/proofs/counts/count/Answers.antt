@@ -1,6 +1,7 @@
 use Rattle.std.proofs.Common.{refl, arith}
 use Rattle.analysis.specs.Tables.{counts_from}
 use Rattle.analysis.specs.Growth.{pattern_of}
+use Rattle.analysis.proofs.Fronts.{grows_front, gathered_front}
 use Rattle.analysis.proofs.Chains.{linked_only}
 use Rattle.analysis.proofs.CountedTables.{changed_then, changed_front, changed_gathered, taken_changed}
 use Rattle.analysis.proofs.CountedEvents.{ready_only, ready_grows, tops_first, tops_last}
@@ -39,7 +40,7 @@ gather-requires g c =
     let begun = changed_front c.args.n _ _ c.begin_counts.ensures in
     let both = changed_then _ _ _ _ begun (taken_changed _ _ _ _ c.take_children.ensures) in
     let all = changed_then _ _ _ _ both c.count_walk.ensures.changed in
-    record { within = omega arith; grows = ready_grows p _ (ready_only p _ _ all.only c.requires.ready) }
+    record { grows = grows_front c.args.n _ (omega arith) (ready_grows p _ (ready_only p _ _ all.only c.requires.ready)) }
 
 pub returns : goal.returns
 returns g c =
@@ -47,10 +48,11 @@ returns g c =
     let begun = changed_front c.args.n _ _ c.begin_counts.ensures in
     let both = changed_then _ _ _ _ begun (taken_changed _ _ _ _ c.take_children.ensures) in
     let all = changed_then _ _ _ _ both c.count_walk.ensures.changed in
+    let gathered = gathered_front c.args.n _ (omega arith) c.gather.new.nodes _ (omega arith) refl c.gather.ensures in
     record {
       counted = counted_all p _ _ c.requires.few (ready_only p _ _ all.only c.requires.ready)
-          c.count_walk.ensures.counted c.gather.ensures;
-      changed = changed_then _ _ _ _ all (changed_gathered c.args.n _ _ c.gather.ensures);
+          c.count_walk.ensures.counted gathered;
+      changed = changed_then _ _ _ _ all (changed_gathered c.args.n _ _ gathered);
       tops = tops_last p _ c.count_walk.ensures.tops;
       size = c.count_walk.ensures.size;
     }
