@@ -66,157 +66,37 @@ unfoldable pub first_by : {X : Type 0} → ℕ → (X → X) → List X → List
 first_by n f xs = map f (take n xs) ++ drop n xs
 
 abbrev pub with_link : Entry → ℕ → Entry
-with_link e l = record { low = e.low; high = e.high; link = l }
+with_link e l = record e { link = l }
 
 abbrev pub with_parent : Vertex → ℕ → Vertex
-with_parent x y =
-    record {
-      parent = y;
-      level = x.level;
-      place = x.place;
-      first = x.first;
-      deepest = x.deepest;
-      rows = x.rows;
-      weight = x.weight;
-      head = x.head;
-      last = x.last;
-      at = x.at;
-    }
+with_parent x y = record x { parent = y }
 
 abbrev pub with_level : Vertex → ℕ → Vertex
-with_level x y =
-    record {
-      parent = x.parent;
-      level = y;
-      place = x.place;
-      first = x.first;
-      deepest = x.deepest;
-      rows = x.rows;
-      weight = x.weight;
-      head = x.head;
-      last = x.last;
-      at = x.at;
-    }
+with_level x y = record x { level = y }
 
 abbrev pub with_place : Vertex → ℕ → Vertex
-with_place x y =
-    record {
-      parent = x.parent;
-      level = x.level;
-      place = y;
-      first = x.first;
-      deepest = x.deepest;
-      rows = x.rows;
-      weight = x.weight;
-      head = x.head;
-      last = x.last;
-      at = x.at;
-    }
+with_place x y = record x { place = y }
 
 abbrev pub with_first : Vertex → LeastPlace → Vertex
-with_first x y =
-    record {
-      parent = x.parent;
-      level = x.level;
-      place = x.place;
-      first = y;
-      deepest = x.deepest;
-      rows = x.rows;
-      weight = x.weight;
-      head = x.head;
-      last = x.last;
-      at = x.at;
-    }
+with_first x y = record x { first = y }
 
 abbrev pub with_deepest : Vertex → GreatestLevel → Vertex
-with_deepest x y =
-    record {
-      parent = x.parent;
-      level = x.level;
-      place = x.place;
-      first = x.first;
-      deepest = y;
-      rows = x.rows;
-      weight = x.weight;
-      head = x.head;
-      last = x.last;
-      at = x.at;
-    }
+with_deepest x y = record x { deepest = y }
 
 abbrev pub with_rows : Vertex → ℕ → Vertex
-with_rows x y =
-    record {
-      parent = x.parent;
-      level = x.level;
-      place = x.place;
-      first = x.first;
-      deepest = x.deepest;
-      rows = y;
-      weight = x.weight;
-      head = x.head;
-      last = x.last;
-      at = x.at;
-    }
+with_rows x y = record x { rows = y }
 
 abbrev pub with_weight : Vertex → Weight → Vertex
-with_weight x y =
-    record {
-      parent = x.parent;
-      level = x.level;
-      place = x.place;
-      first = x.first;
-      deepest = x.deepest;
-      rows = x.rows;
-      weight = y;
-      head = x.head;
-      last = x.last;
-      at = x.at;
-    }
+with_weight x y = record x { weight = y }
 
 abbrev pub with_head : Vertex → ℕ → Vertex
-with_head x y =
-    record {
-      parent = x.parent;
-      level = x.level;
-      place = x.place;
-      first = x.first;
-      deepest = x.deepest;
-      rows = x.rows;
-      weight = x.weight;
-      head = y;
-      last = x.last;
-      at = x.at;
-    }
+with_head x y = record x { head = y }
 
 abbrev pub with_last : Vertex → ℕ → Vertex
-with_last x y =
-    record {
-      parent = x.parent;
-      level = x.level;
-      place = x.place;
-      first = x.first;
-      deepest = x.deepest;
-      rows = x.rows;
-      weight = x.weight;
-      head = x.head;
-      last = y;
-      at = x.at;
-    }
+with_last x y = record x { last = y }
 
 abbrev pub with_at : Vertex → ℕ → Vertex
-with_at x y =
-    record {
-      parent = x.parent;
-      level = x.level;
-      place = x.place;
-      first = x.first;
-      deepest = x.deepest;
-      rows = x.rows;
-      weight = x.weight;
-      head = x.head;
-      last = x.last;
-      at = y;
-    }
+with_at x y = record x { at = y }
 
 -- Nothing but what `mix` takes over from the second record has changed.
 abbrev pub Only : (Vertex → Vertex → Vertex) → List Vertex → List Vertex → Type 0
