@@ -11,7 +11,7 @@ ghost use Rattle.std.proofs.lemmas.Int.{ints, int_wrap-add_left, int_wrap-add_ri
 use crate::joining::Joining;
 
 // A share of a sum that wraps.
-#[derive(Clone, Copy)]
+#[derive(Clone, Copy, Default)]
 pub struct Weight(pub i64);
 
 impl Joining for Weight {
@@ -43,7 +43,7 @@ impl Joining for Weight {
 
 // A place, of which the least is sought. One type for this and the next would be no plainer: min or max, and what is
 // neutral to it, are all that they are.
-#[derive(Clone, Copy)]
+#[derive(Clone, Copy, Default)]
 pub struct LeastPlace(pub u32);
 
 impl From<u32> for LeastPlace {
@@ -74,7 +74,7 @@ impl Joining for LeastPlace {
 }
 
 // A level, of which the greatest is sought.
-#[derive(Clone, Copy)]
+#[derive(Clone, Copy, Default)]
 pub struct GreatestLevel(pub u32);
 
 impl From<u32> for GreatestLevel {
