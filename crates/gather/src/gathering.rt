@@ -1,7 +1,8 @@
 // The gathering: each vertex's value becomes the joining over its subtree.
 ghost use Rattle.std.specs.Prelude.{◌≡◌, ◌≤◌, length};
+ghost use Rattle.std.specs.Fn.{FnReturnsAt};
 ghost use Rattle.pattern.specs.Forest.{Grows};
-ghost use Rattle.gather.specs.Gatherings.{field_of, joined_up, Gathered};
+ghost use Rattle.gather.specs.Gatherings.{field_of, joined_up, Gathered, Begun, GatheredFrom};
 
 use crate::joining::{Joining, Node};
 
@@ -32,4 +33,26 @@ pub fn gather<J: Joining + Copy, N: Node<J>>(nodes: &mut [N])
     for v in 1..=nodes.len() {
         join_up(nodes, v);
     }
+}
+
+// Sets each record's value to what `start` answers for it.
+fn begin<J: Joining, N: Node<J>, F: Fn(&N) -> J>(nodes: &mut [N], start: F)
+    requires { F.IsAlwaysCallable start }
+    ensures { Begun (FnReturnsAt F.Fn start) N.blank N.held N.holding (length nodes.old) nodes.old nodes.new }
+{
+    for node in nodes.iter_mut() {
+        let value = start(node);
+        node.set_value(value);
+    }
+}
+
+// Gathers what `start` answers for each record.
+pub fn gather_from<J: Joining + Copy, N: Node<J>, F: Fn(&N) -> J>(nodes: &mut [N], start: F)
+    requires start { F.IsAlwaysCallable start }
+    requires grows { Grows (length nodes.old) (field_of N.blank N.above nodes.old) }
+    ensures { GatheredFrom (FnReturnsAt F.Fn start) J.nothing J.joined N.blank N.above N.holding
+        (length nodes.old) nodes.old nodes.new }
+{
+    begin(nodes, start);
+    gather::<J, N>(nodes);
 }

@@ -4,7 +4,7 @@ ghost use Rattle.pattern.specs.Forest.{Grows};
 ghost use Rattle.gather.specs.Kinds.{weight, least_place, greatest_level};
 ghost use Rattle.std.proofs.Common.{rules};
 
-use crate::gathering::gather;
+use crate::gathering::{gather, gather_from};
 use crate::joining::{Child, Node};
 use crate::kinds::*;
 
@@ -121,6 +121,13 @@ fn greatest_over_a_tree(rt: HostRuntime) {
     let mut tree = tree();
     gather::<GreatestLevel, Vertex>(&mut tree);
     assert_eq!(rt; tree.map(|vertex| vertex.level), [3, 5, 5, 3, 5, 5]);
+}
+
+#[test]
+fn sizes_of_a_tree(rt: HostRuntime) {
+    let mut tree = tree();
+    gather_from(&mut tree, |_: &Vertex| Weight(1));
+    assert_eq!(rt; tree.map(|vertex| vertex.weight), [1, 1, 2, 2, 3, 6]);
 }
 
 // 2 and 4 are roots; the fifth record is no vertex of the forest.
