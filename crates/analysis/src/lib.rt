@@ -41,7 +41,7 @@ pub fn analyse<S: AncestorSets>(
         (Analysed n vertices.new entries.old entries.new
         (S.meaning sets.old) (S.meaning sets.new)) }
 {
-    if !sets.start(n) {
+    if sets.start(n).is_err() {
         return None;
     }
     link_by(End::High, n, vertices, entries);

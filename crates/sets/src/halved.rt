@@ -5,8 +5,8 @@ ghost use Rattle.sets.specs.Meaning.{among, Made};
 ghost use Rattle.sets.specs.Soundness.{sound_linked};
 ghost use Rattle.sets.specs.Tables.{number, room, Stays};
 
-use super::AncestorSets;
 use super::table::Table;
+use super::{AncestorSets, NoRoom, NotTops};
 
 impl Table<'_> {
     // The end of the links from v, halving the way.
@@ -52,7 +52,7 @@ impl<'a> AncestorSets for HalvedLinks<'a> {
 
     ghost sound = { λ s. sound_linked s.links.numbers.now s.links.used s.fits s.stays s.ends };
 
-    fn start(&mut self, n: u32) -> bool {
+    fn start(&mut self, n: u32) -> Result<(), NoRoom> {
         self.links.start(n)
     }
 
@@ -63,7 +63,7 @@ impl<'a> AncestorSets for HalvedLinks<'a> {
         Some(self.links.halve(v))
     }
 
-    fn merge(&mut self, v: u32, p: u32) -> bool {
+    fn merge(&mut self, v: u32, p: u32) -> Result<(), NotTops> {
         self.links.hang(v, p)
     }
 }

@@ -1,7 +1,9 @@
 // A number for each vertex in use, in numbers that are lent: what the kinds of sets have in common.
-ghost use Rattle.std.specs.Prelude.{◌≡◌, ◌-◌, ◌≤◌, true, length, slice_set};
+ghost use Rattle.std.specs.Prelude.{◌≡◌, ◌-◌, ◌≤◌, true, is_ok, length, slice_set};
 ghost use Rattle.sets.specs.Meaning.{among};
 ghost use Rattle.sets.specs.Tables.{number, own, two_tops, Begun, Hung};
+
+use super::{NoRoom, NotTops};
 
 // The most vertices that sets have room for.
 const LIMIT: u32 = 16_384;
@@ -14,18 +16,18 @@ pub struct Table<'a> {
 
 impl Table<'_> {
     // Has 1 to n in use, each with itself as its number. Refused if there is no room for n.
-    pub(crate) fn start(&mut self, n: u32) -> bool
-        ensures { Begun self.old.numbers.now self.old.used n result
+    pub(crate) fn start(&mut self, n: u32) -> Result<(), NoRoom>
+        ensures { Begun self.old.numbers.now self.old.used n (is_ok result)
             self.new.numbers.now self.new.used }
     {
         if n > LIMIT || n as usize > self.numbers.len() {
-            return false;
+            return Err(NoRoom);
         }
         for i in 0..n {
             self.numbers[i as usize] = i + 1;
         }
         self.used = n;
-        true
+        Ok(())
     }
 
     // Whether v is in use.
@@ -62,24 +64,26 @@ impl Table<'_> {
         self.has(v) && self.get(v) == v
     }
 
-    // Whether v and p are two different own tops.
-    pub(crate) fn owns_both(&self, v: u32, p: u32) -> bool
+    // Refuses v and p unless they are two different own tops.
+    pub(crate) fn judge_merge(&self, v: u32, p: u32) -> Result<(), NotTops>
         requires { self.now.used ≤ length self.now.numbers.now }
-        ensures { result ≡ two_tops self.now.used (number self.now.numbers.now) v p }
+        ensures { is_ok result ≡ two_tops self.now.used (number self.now.numbers.now) v p }
     {
-        self.owns(v) && self.owns(p) && v != p
+        if self.owns(v) && self.owns(p) && v != p {
+            Ok(())
+        } else {
+            Err(NotTops)
+        }
     }
 
     // Links v to p. Refused unless they are two different own tops.
-    pub(crate) fn hang(&mut self, v: u32, p: u32) -> bool
+    pub(crate) fn hang(&mut self, v: u32, p: u32) -> Result<(), NotTops>
         requires { self.old.used ≤ length self.old.numbers.now }
         ensures kept { self.new.used ≡ self.old.used }
-        ensures hung { Hung self.old.numbers.now self.old.used v p result self.new.numbers.now }
+        ensures hung { Hung self.old.numbers.now self.old.used v p (is_ok result) self.new.numbers.now }
     {
-        if !self.owns_both(v, p) {
-            return false;
-        }
+        self.judge_merge(v, p)?;
         self.put(v, p);
-        true
+        Ok(())
     }
 }

@@ -4,8 +4,8 @@ ghost use Rattle.sets.specs.Meaning.{Made};
 ghost use Rattle.sets.specs.Soundness.{sound_written};
 ghost use Rattle.sets.specs.Tables.{number, room, written_sets, Stays, Rests, Rewritten};
 
-use super::AncestorSets;
 use super::table::Table;
+use super::{AncestorSets, NoRoom, NotTops};
 
 impl Table<'_> {
     // Turns every number v in use into p.
@@ -48,7 +48,7 @@ impl<'a> AncestorSets for WrittenTops<'a> {
 
     ghost sound = { λ s. sound_written s.tops.numbers.now s.tops.used s.fits s.stays s.rests };
 
-    fn start(&mut self, n: u32) -> bool {
+    fn start(&mut self, n: u32) -> Result<(), NoRoom> {
         self.tops.start(n)
     }
 
@@ -59,11 +59,9 @@ impl<'a> AncestorSets for WrittenTops<'a> {
         Some(self.tops.get(v))
     }
 
-    fn merge(&mut self, v: u32, p: u32) -> bool {
-        if !self.tops.owns_both(v, p) {
-            return false;
-        }
+    fn merge(&mut self, v: u32, p: u32) -> Result<(), NotTops> {
+        self.tops.judge_merge(v, p)?;
         self.tops.rewrite(v, p);
-        true
+        Ok(())
     }
 }
