@@ -1,5 +1,5 @@
 -- Neighbour lists by links: what the newest position is, and one more entry.
-use Rattle.std.proofs.Common.{◌≡◌, ℕ, zero, suc, ◌+◌, ◌-◌, ◌<◌, ◌≤◌, Bool, true, false, cond, eqb, ◌≢◌, ◌⊎◌, List, length, get_or, set, sym, refl, ap, ◌∙◌, subst, inl, inr, add-one, arith}
+use Rattle.std.proofs.Common.{◌≡◌, ℕ, zero, suc, ◌+◌, ◌-◌, ◌<◌, ◌≤◌, ◌≢◌, List, map, length, get_or, set, sym, refl, ap, ◌∙◌, subst, inl, inr, add-one, arith}
 use Rattle.std.proofs.lemmas.Bool.{cases_eq}
 use Rattle.std.proofs.lemmas.Bool.Decides.{nat_tests}
 use Rattle.std.proofs.lemmas.List.{length-map, map-set, get_or-map, set-get_or, get_or-set_same, get_or-set_other}
@@ -7,10 +7,10 @@ use Rattle.analysis.specs.declared.records.End.{End}
 use Rattle.analysis.specs.declared.records.End.TheVariants.{Low, High}
 use Rattle.analysis.specs.declared.records.Entry.{Entry}
 use Rattle.analysis.specs.declared.records.Vertex.{Vertex}
-use Rattle.analysis.specs.Tables.{vertex, entry, no_entry, no_vertex, end_of, pairs_of, pair_of, with_link, with_head}
-use Rattle.analysis.specs.Tables.{SoundPair, Sound, first_by, Only}
-use Rattle.analysis.specs.Links.{newest, Linked, AllLinked, headed, linked}
-use Rattle.analysis.proofs.Changes.{vertex_same, vertex_other, get_or_front}
+use Rattle.analysis.specs.Tables.{vertex, entry, no_entry, end_of, pairs_of, pair_of, with_link, with_head}
+use Rattle.analysis.specs.Tables.{SoundPair, Sound, Only}
+use Rattle.analysis.specs.Links.{newest, Linked, AllLinked, Listed}
+use Rattle.analysis.proofs.Changes.{vertex_same, vertex_other, vertex_map}
 
 module _ (which : End) (ps : List (ℕ × ℕ)) where
   pub newest_within : (k v : ℕ) → newest which ps k v ≤ k
@@ -69,22 +69,27 @@ ends_at which n es ps k v e sound h i =
     let b = end_within which n _ (sound k (omega arith)) in
     record { is = is; from = omega arith; to = omega arith }
 
-pub linked_none : (which : End) (n : ℕ) (ps : List (ℕ × ℕ)) (before vs : List Vertex) (es : List Entry) →
-    n ≤ length before → vs ≡ first_by n (λ x. with_head x 0) before → Linked which n ps 0 vs es
+-- the vertices once the list of v begins at the position h, and the entries once the one at k goes on to the position l
+abbrev pub headed : List Vertex → ℕ → ℕ → List Vertex
+headed vs v h = set vs (v - 1) (with_head (vertex vs v) h)
+
+abbrev pub linked : List Entry → ℕ → ℕ → List Entry
+linked es k l = set es k (with_link (entry es k) l)
+
+pub linked_none : (which : End) (ps : List (ℕ × ℕ)) (before vs : List Vertex) (es : List Entry) →
+    vs ≡ map (λ x. with_head x 0) before → Linked which (length before) ps 0 vs es
 unfolding newest
-linked_none which n ps before vs es long e =
+linked_none which ps before vs es e =
     record {
       heads = λ v p q.
-          ap (λ t. (vertex t v).head) e ∙
-          ap (λ x. x.head) (get_or_front (λ x. with_head x 0) n before (v - 1) no_vertex (omega arith) (omega arith));
+          ap (λ t. (vertex t v).head) e ∙ ap (λ x. x.head) (vertex_map (λ x. with_head x 0) before v p q);
       links = λ j h. absurd (omega arith);
     }
 
 -- a link changes no pair
-pub pairs_kept : (es : List Entry) (k l : ℕ) (fs : List Entry) →
-    k < length es → fs ≡ linked es k l → pairs_of fs ≡ pairs_of es
-pairs_kept es k l fs h e =
-    ap pairs_of e ∙ map-set pair_of es k (with_link (entry es k) l) ∙
+pub pairs_kept : (es : List Entry) (k l : ℕ) → k < length es → pairs_of (linked es k l) ≡ pairs_of es
+pairs_kept es k l h =
+    map-set pair_of es k (with_link (entry es k) l) ∙
     ap (set (pairs_of es) k) (sym (get_or-map pair_of es k no_entry (0, 0) h)) ∙ set-get_or (pairs_of es) k (0, 0)
 
 -- one more entry is linked
@@ -123,14 +128,11 @@ module _ (which : End) (n : ℕ) (ps : List (ℕ × ℕ)) (k v : ℕ) (vs : List
             before.links j (omega arith)
       ]
 
-  pub linked_more : (ws : List Vertex) (fs : List Entry) →
-      ws ≡ headed vs v (k + 1) →
-      fs ≡ linked es k (vertex vs v).head → Linked which n ps (k + 1) ws fs
-  linked_more ws fs d e =
+  pub linked_more : Linked which n ps (k + 1) (headed vs v (k + 1)) (linked es k (vertex vs v).head)
+  linked_more =
       record {
-        heads = λ w p q.
-            ap (λ t. (vertex t w).head) d ∙ head_more w p q ∙ ap (λ m. newest which ps m w) (sym (add-one k));
-        links = λ j h. ap (λ t. (entry t j).link) e ∙ link_more j (omega arith);
+        heads = λ w p q. head_more w p q ∙ ap (λ m. newest which ps m w) (sym (add-one k));
+        links = λ j h. link_more j (omega arith);
       }
 
 pub linked_all : (which : End) (n : ℕ) (ps : List (ℕ × ℕ)) (k : ℕ) (vs : List Vertex) (es : List Entry) →
@@ -146,6 +148,16 @@ linked_only mix keeps which n ps k vs ws es only l =
     record {
       heads = λ v p q. ap (λ x. x.head) (only v) ∙ keeps (vertex vs v) (vertex ws v) ∙ l.heads v p q;
       links = l.links;
+    }
+
+pub listed_only : (mix : Vertex → Vertex → Vertex) → ((x y : Vertex) → (mix x y).head ≡ x.head) →
+    (which : End) (vs ws : List Vertex) (es : List Entry) →
+    length vs ≡ length ws → Only mix vs ws → Listed which vs es → Listed which ws es
+listed_only mix keeps which vs ws es long only l =
+    record {
+      sound = subst (λ n. Sound n (pairs_of es)) long l.sound;
+      lists = subst (λ n. AllLinked which n ws es) long
+          (linked_only mix keeps which (length vs) (pairs_of es) (length es) vs ws es only l.lists);
     }
 
 -- What a position met on the list of u says: it is none, or that of an entry with u at that end, whose link is an

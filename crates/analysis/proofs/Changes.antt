@@ -1,7 +1,9 @@
 -- Tables that change: the first n records by one function, or one record; and what stays then.
-use Rattle.std.proofs.Common.{◌≡◌, ℕ, zero, suc, ◌+◌, ◌-◌, ◌<◌, ◌≤◌, ◌≢◌, ◌⊎◌, List, [], ◌∷◌, length, get_or, set, sym, refl, ap, ◌∙◌, subst, inl, inr, add-one, arith}
+use Rattle.std.proofs.Common.{◌≡◌, ℕ, zero, suc, ◌+◌, ◌-◌, ◌<◌, ◌≤◌, ◌≢◌, List, [], ◌∷◌, map, take, drop, ◌++◌, length, get_or, set, sym, refl, ap, ◌∙◌, subst, inl, inr, add-one, arith}
 use mathlib.Core.Path.{fun_ext}
-use Rattle.std.proofs.lemmas.List.{get_or-set_same, get_or-set_other, set_past}
+use Rattle.std.proofs.lemmas.List.{get_or-map, get_or-set_same, get_or-set_other, set_past}
+use Rattle.std.proofs.lemmas.List.{get_or_default}
+use Rattle.std.proofs.lemmas.List.Edits.{map_over_more}
 use Rattle.std.proofs.lemmas.Bool.{cases_lt, cases_eq}
 use Rattle.pattern.specs.Forest.{Grows}
 use Rattle.gather.specs.Gatherings.{Gathered}
@@ -55,6 +57,18 @@ vertex_same vs v x p q = get_or-set_same vs (v - 1) x no_vertex (omega arith)
 pub vertex_other : (vs : List Vertex) (v w : ℕ) (x : Vertex) →
     1 ≤ v → 1 ≤ w → w ≢ v → vertex (set vs (v - 1) x) w ≡ vertex vs w
 vertex_other vs v w x p q ne = get_or-set_other vs (v - 1) (w - 1) x no_vertex (λ e. ne (omega arith))
+
+-- each record is changed by f
+pub vertex_map : (f : Vertex → Vertex) (vs : List Vertex) (v : ℕ) →
+    1 ≤ v → v ≤ length vs → vertex (map f vs) v ≡ f (vertex vs v)
+vertex_map f vs v p q = get_or-map f vs (v - 1) no_vertex no_vertex (omega arith)
+
+-- a loop's step, in which it is
+pub map_more : (f : Vertex → Vertex) (xs ys : List Vertex) (i : ℕ) → i < length xs → i < length ys →
+    ys ≡ map f (take i xs) ++ drop i xs →
+    set ys i (f (get_or ys i no_vertex)) ≡ map f (take (i + 1) xs) ++ drop (i + 1) xs
+map_more f xs ys i h l e =
+    let x = get_or ys i no_vertex in map_over_more f xs ys i x h e (get_or_default ys i no_vertex x l)
 
 -- A change that takes over some fields of the new record, and leaves the others.
 pub record Takes (mix : Vertex → Vertex → Vertex) : Type 0 where
@@ -125,6 +139,17 @@ module _ {mix : Vertex → Vertex → Vertex} (takes : Takes mix) where
   pub only_front : (n : ℕ) (f : Vertex → Vertex) (vs ws : List Vertex) →
       ((x : Vertex) → f x ≡ mix x (f x)) → ws ≡ first_by n f vs → Only mix vs ws
   only_front n f vs ws e i = subst (Only mix vs) (sym i) (λ v. front_only n f vs e (v - 1))
+
+  map_only : (f : Vertex → Vertex) (vs : List Vertex) → ((x : Vertex) → f x ≡ mix x (f x)) →
+      (k : ℕ) → get_or (map f vs) k no_vertex ≡ mix (get_or vs k no_vertex) (get_or (map f vs) k no_vertex)
+  map_only f [] e k = sym (takes.same no_vertex)
+  map_only f (x ∷ vs) e zero = e x
+  map_only f (x ∷ vs) e (suc k) = map_only f vs e k
+
+  -- all records have
+  pub only_map : (f : Vertex → Vertex) (vs ws : List Vertex) →
+      ((x : Vertex) → f x ≡ mix x (f x)) → ws ≡ map f vs → Only mix vs ws
+  only_map f vs ws e i = subst (Only mix vs) (sym i) (λ v. map_only f vs e (v - 1))
 
 -- The records past n stay.
 module _ (n : ℕ) (vs ws : List Vertex) where

@@ -1,9 +1,9 @@
 -- Neighbour lists by links: the entries that have v at one end, from the newest to the oldest.
-use Rattle.std.specs.Prelude.{◌≡◌, ℕ, zero, suc, ◌-◌, ◌<◌, ◌≤◌, cond, List, length, ◌==◌, slice_index_or, slice_set}
+use Rattle.std.specs.Prelude.{◌≡◌, ℕ, zero, suc, ◌<◌, ◌≤◌, cond, List, length, ◌==◌, slice_index_or}
 use Rattle.analysis.specs.declared.records.Entry.{Entry}
 use Rattle.analysis.specs.declared.records.End.{End}
 use Rattle.analysis.specs.declared.records.Vertex.{Vertex}
-use Rattle.analysis.specs.Tables.{vertex, entry, end_of, pairs_of, with_head, with_link}
+use Rattle.analysis.specs.Tables.{vertex, entry, end_of, pairs_of, Sound}
 
 -- the 1-based position of the last of the first k pairs that has v at that end, or 0
 unfoldable pub newest : End → List (ℕ × ℕ) → ℕ → ℕ → ℕ
@@ -20,10 +20,7 @@ pub record Linked (which : End) (n : ℕ) (ps : List (ℕ × ℕ)) (k : ℕ) (vs
 abbrev pub AllLinked : End → ℕ → List Vertex → List Entry → Type 0
 AllLinked which n vs es = Linked which n (pairs_of es) (length es) vs es
 
--- the vertices once the list of v begins at the position h
-abbrev pub headed : List Vertex → ℕ → ℕ → List Vertex
-headed vs v h = slice_set vs (v - 1) (with_head (vertex vs v) h)
-
--- the entries once the one at k goes on to the position l
-abbrev pub linked : List Entry → ℕ → ℕ → List Entry
-linked es k l = slice_set es k (with_link (entry es k) l)
+-- sound pairs of the table's vertices, all linked
+pub record Listed (which : End) (vs : List Vertex) (es : List Entry) : Type 0 where
+  pub sound : Sound (length vs) (pairs_of es)
+  pub lists : AllLinked which (length vs) vs es

@@ -1,5 +1,4 @@
 use Rattle.std.proofs.Common.{sym, refl, ap, ◌∙◌, arith}
-use Rattle.pattern.specs.Forest.{place}
 use Rattle.pattern.specs.Walks.{at_place}
 use Rattle.pattern.proofs.Places.{place_bounds}
 use Rattle.analysis.specs.Tables.{at_from, parent_of}
