@@ -34,7 +34,7 @@ use Rattle.analysis.specs.Growth.{pattern_of, pattern_in, Fresh}
 use Rattle.analysis.specs.Counts.{Prepared, Passed, Ready, Tallied, Counting, TopsAt, TopsAreRoots, SameTops}
 use Rattle.analysis.specs.Counts.{Climbs, meets_at, EntryCounted}
 use Rattle.analysis.proofs.Tops.{among_true, among_parts}
-use Rattle.analysis.proofs.Chains.{Met, newest_last, pair_at, sound_at, listed_only}
+use Rattle.analysis.proofs.Chains.{Met, Taken, newest_last, pair_at, sound_at, listed_only}
 
 -- a change of counts leaves the tree
 pub ready_only : (p : Pattern) (vs ws : List Vertex) → Only counts_from vs ws → Ready p vs → Ready p ws
@@ -246,25 +246,28 @@ pub head_newest : (n : ℕ) (vs : List Vertex) (es : List Entry) (x : ℕ) → A
 head_newest n vs es x l from to =
     l.heads x from to ∙ ap (λ m. newest Low (pairs_of es) m x) (sym (length-map es pair_of))
 
--- the entry met on the list of x
-pub at_entry : (n : ℕ) (es : List Entry) (x k : ℕ) → Sound n (pairs_of es) → Met Low n es x k → 1 ≤ k →
-    AtEntry (pattern_of n es) x (entry es (k - 1)).high k
-at_entry n es x k sound met from =
+-- the entry taken from the list of x
+pub at_entry : (n : ℕ) (es : List Entry) (x k q : ℕ) (e : Entry) → Sound n (pairs_of es) → Met Low n es x k →
+    Taken es k e q → AtEntry (pattern_of n es) x e.high k
+at_entry n es x k q e sound met taken =
     let w = met.within in
+    let from = taken.some in
     let l = length-map es pair_of in
-    let e = pair_at es (pairs_of es) (k - 1) refl (omega arith) in
+    let at = pair_at es (pairs_of es) (k - 1) refl (omega arith) in
     let s = sound_at n es (k - 1) sound (omega arith) in
     let m = met.ends (k - 1) (omega arith) in
     let r = s.rises in
     let f = s.from in
+    let t = s.within in
+    let i = ap (λ y. y.high) taken.is in
     record {
       from = from;
       within = omega arith;
-      low = sym (ap (λ y. y.0) e) ∙ m;
-      high = sym (ap (λ y. y.1) e);
+      low = sym (ap (λ y. y.0) at) ∙ m;
+      high = sym (ap (λ y. y.1) at) ∙ sym i;
       some = omega arith;
       rises = omega arith;
-      fits = s.within;
+      fits = omega arith;
     }
 
 -- the tops: as they begin, after a find, after a merge, and at the end

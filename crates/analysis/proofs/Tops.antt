@@ -17,10 +17,10 @@ use Rattle.analysis.specs.declared.records.Vertex.{Vertex}
 use Rattle.analysis.specs.Tables as tables
 use Rattle.analysis.specs.Tables.{entry, pair_of, pairs_of, vertex, no_vertex, parent_of}
 use Rattle.analysis.specs.Tables.{with_parent, parent_from, Only}
-use Rattle.analysis.specs.Links.{Linked}
+use Rattle.analysis.specs.Links.{Linked, AllLinked}
 use Rattle.analysis.specs.Growth.{pattern_of, pattern_in, Fresh, Adopted, adopted, Tree, Rooted}
 use Rattle.analysis.proofs.Changes.{vertex_same, vertex_other, parent_takes, only_none, only_set, vertex_map}
-use Rattle.analysis.proofs.Chains.{Met, met_head, met_link, head_last, link_last, pair_at, sound_at, lower_at}
+use Rattle.analysis.proofs.Chains.{Met, Taken, met_head, met_link, head_last, link_last, pair_at, sound_at, lower_at}
 
 pub among_true : (m v : ℕ) → 1 ≤ v → v ≤ m → among m v ≡ true
 among_true m v p q = grind (arith, nat_tests)
@@ -141,33 +141,33 @@ module _ (n : ℕ) (es : List Entry) (u k : ℕ) (sound : tables.Sound n (pairs_
       }
 
   -- the entry at position k is adopted: on to its link
-  pub row_at_link : (vs : List Vertex) (P T P' T' : ℕ → ℕ) → Linked High n (pairs_of es) (length es) vs es →
-      1 ≤ k → u ≤ n → RowAt n es u k P T → Adopts n (entry es (k - 1)).low u P T P' T' →
-      RowAt n es u (entry es (k - 1)).link P' T'
-  row_at_link vs P T P' T' linked some fits row adopts =
-      record {
-        met = (met_link High n vs es u k linked row.met some).1;
-        in_row = row_step (pattern_of n es) (u - 1) u low P T P' T' x.1 (met_shares row.met some) row.in_row
-            adopts;
-        taken = λ j past h e. elim (cases_lt j (k - 1)) [
-          | inl older ↦ absurd (link_last High n vs es u k linked row.met some j past older e)
-          | inr here ↦ elim (cases_eq j (k - 1)) [
-            | inl i ↦
-                ap (λ m. T' (entry es m).low) i ∙
-                adopts_taken n low u P T P' T' adopts x.0 (omega (arith, x.1, fits))
-            | inr newer ↦
-                let s = sound_at n es j sound h in
-                adopts_keeps n low u P T P' T' adopts (entry es j).low s.from (omega (arith, s.rises, s.within))
-                (row.taken j (omega arith) h e)
-          ]
-        ];
-      }
-    where
-      low : ℕ
-      low = (entry es (k - 1)).low
+  module _ (vs : List Vertex) (P T P' T' : ℕ → ℕ) (e : Entry) (q : ℕ) (linked : AllLinked High n vs es) (fits : u ≤ n)
+      (row : RowAt n es u k P T) (taken : Taken es k e q) (adopts : Adopts n e.low u P T P' T') where
+    low : (1 ≤ e.low) × (e.low < u)
+    low = lower_at n es u k q e sound row.met taken
 
-      x : (1 ≤ (entry es (k - 1)).low) × ((entry es (k - 1)).low < u)
-      x = lower_at n es u k sound row.met some
+    taken_shares : shares (pattern_of n es) e.low u ≡ true
+    taken_shares = subst (λ x. shares (pattern_of n es) x.low u ≡ true) (sym taken.is) (met_shares row.met taken.some)
+
+    here : T' (entry es (k - 1)).low ≡ u
+    here = ap (λ x. T' x.low) (sym taken.is) ∙ adopts_taken n e.low u P T P' T' adopts low.0 (omega (arith, low.1, fits))
+
+    pub row_at_link : RowAt n es u q P' T'
+    row_at_link =
+        record {
+          met = met_link High n vs es u k q e linked row.met taken;
+          in_row = row_step (pattern_of n es) (u - 1) u e.low P T P' T' low.1 taken_shares row.in_row adopts;
+          taken = λ j past h f. elim (cases_lt j (k - 1)) [
+            | inl older ↦ absurd (link_last High n vs es u k q e linked row.met taken j past older f)
+            | inr at ↦ elim (cases_eq j (k - 1)) [
+              | inl i ↦ ap (λ m. T' (entry es m).low) i ∙ here
+              | inr newer ↦
+                  let s = sound_at n es j sound h in
+                  adopts_keeps n e.low u P T P' T' adopts (entry es j).low s.from (omega (arith, s.rises, s.within))
+                  (row.taken j (omega arith) h f)
+            ]
+          ];
+        }
 
   -- no position is left: the row is done
   pub row_at_none : (P T : ℕ → ℕ) → k ≡ 0 → RowAt n es u k P T → AfterRows (pattern_of n es) u P T

@@ -1,5 +1,5 @@
 -- Neighbour lists by links: the entries that have v at one end, from the newest to the oldest.
-use Rattle.std.specs.Prelude.{◌≡◌, ℕ, zero, suc, ◌<◌, ◌≤◌, cond, List, length, ◌==◌, slice_index_or}
+use Rattle.std.specs.Prelude.{◌≡◌, ℕ, zero, suc, ◌-◌, ◌<◌, ◌≤◌, cond, List, length, Option, ◌==◌, slice_index_or, MatchOption}
 use Rattle.analysis.specs.declared.records.Entry.{Entry}
 use Rattle.analysis.specs.declared.records.End.{End}
 use Rattle.analysis.specs.declared.records.Vertex.{Vertex}
@@ -24,3 +24,13 @@ AllLinked which n vs es = Linked which n (pairs_of es) (length es) vs es
 pub record Listed (which : End) (vs : List Vertex) (es : List Entry) : Type 0 where
   pub sound : Sound (length vs) (pairs_of es)
   pub lists : AllLinked which (length vs) vs es
+
+-- each link is to an earlier entry, or to none
+abbrev pub Falling : List Entry → Type 0
+Falling es = (k : ℕ) → k < length es → (entry es k).link ≤ k
+
+-- One step along a list of the entries es, from the position k on to l: nothing at the list's end, or else the entry
+-- there, and on to its link.
+pub record Follows (es : List Entry) (k : ℕ) (r : Option Entry) (fs : List Entry) (l : ℕ) : Type 0 where
+  pub entries : fs ≡ es
+  pub step : MatchOption r ((k ≡ 0) × (l ≡ 0)) (λ e. (1 ≤ k) × (e ≡ entry es (k - 1)) × (l ≡ e.link))

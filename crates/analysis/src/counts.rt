@@ -108,11 +108,8 @@ fn count_neighbours<S: AncestorSets>(
     ensures only { Only counts_from vertices.old vertices.new }
     ensures tops { SameTops (S.meaning sets.old) (S.meaning sets.new) }
 {
-    let mut k = vertices[x as usize - 1].head;
-    while k != 0 {
-        let entry = entries[k as usize - 1];
+    for entry in vertices[x as usize - 1].neighbours(entries) {
         count_entry(x, entry.high, vertices, sets);
-        k = entry.link;
     }
 }
 

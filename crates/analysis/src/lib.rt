@@ -8,6 +8,7 @@ ghost use Rattle.analysis.specs.Analysed.{Refused, Analysed};
 
 pub mod counts;
 pub mod links;
+pub mod neighbours;
 pub mod nodes;
 pub mod order;
 pub mod records;

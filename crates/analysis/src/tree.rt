@@ -50,11 +50,8 @@ fn adopt_row<S: AncestorSets>(u: u32, vertices: &mut [Vertex], entries: &[Entry]
     ensures done { Grown (pattern_in vertices.old entries.now) u vertices.new (S.meaning sets.new) }
     ensures only { Only parent_from vertices.old vertices.new }
 {
-    let mut k = vertices[u as usize - 1].head;
-    while k != 0 {
-        let entry = entries[k as usize - 1];
+    for entry in vertices[u as usize - 1].neighbours(entries) {
         adopt(entry.low, u, vertices, sets);
-        k = entry.link;
     }
 }
 
