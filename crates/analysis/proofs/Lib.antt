@@ -1,5 +1,4 @@
 pub mod Changes
-mod Fronts
 pub mod Chains
 pub mod Passes
 pub mod Gathers

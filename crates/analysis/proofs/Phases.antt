@@ -19,14 +19,14 @@ same_pattern n m es fs long same = ap₂ (λ k ps. record { order = k; entries =
 -- the entries linked by their higher ends, then by their lower ends; the vertices as linked first, once the tree is
 -- grown, once they are in order, and once their lists are those of the lower ends
 module _ (n : ℕ) (fs gs : List Entry) (begun grown ordered listed : List Vertex) (long : length begun ≡ n)
-    (same : pairs_of gs ≡ pairs_of fs) (tree : Tree (pattern_in begun fs) grown)
-    (order : (p : Pattern) → ParentsOf p n grown → OrderedAs p ordered)
+    (wide : length grown ≡ n) (same : pairs_of gs ≡ pairs_of fs) (tree : Tree (pattern_in begun fs) grown)
+    (order : (p : Pattern) → ParentsOf p (length grown) grown → OrderedAs p ordered)
     (a : Only order_from grown ordered) (b : Only head_from ordered listed) where
   own_tree : Tree (pattern_of n gs) grown
   own_tree = subst (λ p. Tree p grown) (sym (same_pattern (length begun) n fs gs (sym long) same)) tree
 
   own_order : OrderedAs (pattern_of n gs) ordered
-  own_order = order (pattern_of n gs) (record { order = refl; parents = own_tree.parents })
+  own_order = order (pattern_of n gs) (record { order = wide; parents = λ v p q. own_tree.parents v p (omega arith) })
 
   -- the tree is in the table
   pub ready : Ready (pattern_of n gs) listed

@@ -46,7 +46,7 @@ pub fn analyse<S: AncestorSets>(
     let vertices = &mut vertices[..n as usize];
     link_by(End::High, vertices, entries);
     grow(vertices, entries, sets);
-    set_in_order(n, vertices);
+    set_in_order(vertices);
     link_by(End::Low, vertices, entries);
     sets.start(n).unwrap();
     count(vertices, entries, sets);

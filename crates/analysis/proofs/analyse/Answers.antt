@@ -19,7 +19,7 @@ count-requires-clause-prepared g c =
       lists = c.link_by-2.ensures.lists;
       tree = at_equal (λ m. Ready (pattern_of m gs))
           (ready n c.link_by.new.entries gs c.link_by.new.vertices c.grow.new.vertices c.order.new.vertices vs
-          (omega arith) c.link_by-2.ensures.pairs c.grow.ensures.tree
+          (omega arith) (omega arith) c.link_by-2.ensures.pairs c.grow.ensures.tree
           c.order.ensures.answers c.order.ensures.only c.link_by-2.ensures.only)
           (omega arith);
     }
@@ -42,7 +42,7 @@ returns g c =
       answers = answered_front (pattern_of n es) counted (drop n c.args.vertices.now) (omega arith)
           (subst (λ p. Answered p counted) (same_pattern n n es gs refl pairs)
           (answered n c.link_by.new.entries gs c.link_by.new.vertices c.grow.new.vertices c.order.new.vertices vs
-          (omega arith) c.link_by-2.ensures.pairs c.grow.ensures.tree
+          (omega arith) (omega arith) c.link_by-2.ensures.pairs c.grow.ensures.tree
           c.order.ensures.answers c.order.ensures.only c.link_by-2.ensures.only
           counted c.count.ensures.only
           (at_equal (λ m. Counted (pattern_of m gs)) c.count.ensures.counted (omega arith))));
