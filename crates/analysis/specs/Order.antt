@@ -15,9 +15,13 @@ pub record Forest (vs : List Vertex) : Type 0 where
   pub few : length vs ≤ 16384
   pub grows : forest.Grows (length vs) (parent_of vs)
 
+-- one more than the level that w has, or 0 if w is none
+abbrev pub level_under : List Vertex → ℕ → ℕ
+level_under vs w = cond (w == 0) 0 ((vertex vs w).level + 1)
+
 -- one more than the level that the parent of v has, or 0 at a root
 abbrev pub level_below : List Vertex → ℕ → ℕ
-level_below vs v = cond (parent_of vs v == 0) 0 ((vertex vs (parent_of vs v)).level + 1)
+level_below vs v = level_under vs (parent_of vs v)
 
 -- the number of vertices in the subtree, while the weight holds it
 abbrev pub size_in : Vertex → ℕ

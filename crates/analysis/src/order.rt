@@ -1,9 +1,9 @@
 // From the parents to levels, sizes of subtrees, places, the walk by place, and what the subtrees reach.
-ghost use Rattle.std.specs.Prelude.{◌≡◌, ◌-◌, ◌<◌, ◌≤◌, length, pos, slice_set};
+ghost use Rattle.std.specs.Prelude.{◌≡◌, ◌-◌, ◌<◌, ◌≤◌, length, pos};
 ghost use Rattle.pattern.specs.Patterns.{Pattern};
-ghost use Rattle.analysis.specs.Tables.{vertex, parent_of, with_level, with_place, with_last, Only};
+ghost use Rattle.analysis.specs.Tables.{vertex, parent_of, with_place, with_last, Only};
 ghost use Rattle.analysis.specs.Tables.{level_from, weight_from, place_from, at_from, first_from, deepest_from, order_from};
-ghost use Rattle.analysis.specs.Order.{Forest, level_below, size_in, next_place, taken, free_after, noted};
+ghost use Rattle.analysis.specs.Order.{Forest, level_under, size_in, next_place, taken, free_after, noted};
 ghost use Rattle.analysis.specs.Order.{Levelled, Sized, Placed, Walked, FirstPlaced, Sounded};
 ghost use Rattle.analysis.specs.Order.{Ordered, ParentsOf, OrderedAs};
 
@@ -11,20 +11,17 @@ use crate::records::Vertex;
 use gather::gathering::gather_from;
 use gather::kinds::{GreatestLevel, LeastPlace, Weight};
 
-// One level below the parent, which has its level already; 0 at a root.
-fn settle_level(v: usize, vertices: &mut [Vertex])
-    requires from { 1 ≤ v }
-    requires to { v ≤ length vertices.old }
-    requires parent { parent_of vertices.old v ≤ length vertices.old }
-    requires small { 1 ≤ parent_of vertices.old v → (vertex vertices.old (parent_of vertices.old v)).level < 16384 }
-    ensures { vertices.new ≡ slice_set vertices.old (v - 1) (with_level (vertex vertices.old v) (level_below vertices.old v)) }
+// One more than the level of the parent, which has its level already; 0 if there is none.
+fn level_below(parent: u32, vertices: &[Vertex]) -> u32
+    requires within { parent ≤ length vertices.now }
+    requires small { 1 ≤ parent → (vertex vertices.now parent).level < 16384 }
+    ensures { result ≡ level_under vertices.now parent }
 {
-    let parent = vertices[v - 1].parent as usize;
-    vertices[v - 1].level = if parent == 0 {
+    if parent == 0 {
         0
     } else {
-        vertices[parent - 1].level + 1
-    };
+        vertices[parent as usize - 1].level + 1
+    }
 }
 
 // The levels, from the parents down.
@@ -34,7 +31,7 @@ fn levels(vertices: &mut [Vertex])
     ensures only { Only level_from vertices.old vertices.new }
 {
     for v in (1..=vertices.len()).rev() {
-        settle_level(v, vertices);
+        vertices[v - 1].level = level_below(vertices[v - 1].parent, vertices);
     }
 }
 
@@ -44,25 +41,27 @@ fn sizes(vertices: &mut [Vertex])
     ensures sizes { Sized (length vertices.new) vertices.new }
     ensures only { Only weight_from vertices.old vertices.new }
 {
-    gather_from(vertices, |_: &Vertex| Weight(1));
+    gather_from(vertices, |_| Weight(1));
 }
 
-// The number of vertices in the subtree, once the sizes are gathered.
-fn size_of(vertex: Vertex) -> u32
-    requires counts { vertex.weight.0 ≡ pos (size_in vertex) }
-    requires few { size_in vertex ≤ 16384 }
-    ensures { result ≡ size_in vertex }
-{
-    vertex.weight.0 as u32
-}
+impl Vertex {
+    // The number of vertices in the subtree, once the sizes are gathered.
+    fn size(&self) -> u32
+        requires counts { self.now.weight.0 ≡ pos (size_in self.now) }
+        requires few { size_in self.now ≤ 16384 }
+        ensures { result ≡ size_in self.now }
+    {
+        self.weight.0 as u32
+    }
 
-// Gives the vertex its place, and the one before to the next of its children.
-fn set_place(vertex: &mut Vertex, place: u32)
-    requires { 1 ≤ place }
-    ensures { vertex.new ≡ with_last (with_place vertex.old place) (place - 1) }
-{
-    vertex.place = place;
-    vertex.last = place - 1;
+    // Gives the vertex its place, and the one before to the next of its children.
+    fn set_place(&mut self, place: u32)
+        requires { 1 ≤ place }
+        ensures { self.new ≡ with_last (with_place self.old place) (place - 1) }
+    {
+        self.place = place;
+        self.last = place - 1;
+    }
 }
 
 // Gives v the last place that is free below its parent, with those before it to the subtree of v, and answers the last
@@ -78,14 +77,14 @@ fn take_place(v: usize, free: u32, vertices: &mut [Vertex]) -> u32
     ensures table { vertices.new ≡ taken vertices.old free v }
     ensures free { result ≡ free_after vertices.old free v }
 {
-    let size = size_of(vertices[v - 1]);
+    let size = vertices[v - 1].size();
     let parent = vertices[v - 1].parent as usize;
     if parent == 0 {
-        set_place(&mut vertices[v - 1], free);
+        vertices[v - 1].set_place(free);
         return free - size;
     }
     let place = vertices[parent - 1].last;
-    set_place(&mut vertices[v - 1], place);
+    vertices[v - 1].set_place(place);
     vertices[parent - 1].last = place - size;
     free
 }
@@ -136,7 +135,7 @@ fn first_places(vertices: &mut [Vertex])
     ensures firsts { FirstPlaced (length vertices.new) vertices.new }
     ensures only { Only first_from vertices.old vertices.new }
 {
-    gather_from(vertices, |vertex: &Vertex| LeastPlace::from(vertex.place));
+    gather_from(vertices, |vertex| LeastPlace::from(vertex.place));
 }
 
 // The greatest level in each subtree.
@@ -146,10 +145,7 @@ fn depths(vertices: &mut [Vertex])
     ensures depths { Sounded (length vertices.new) vertices.new }
     ensures only { Only deepest_from vertices.old vertices.new }
 {
-    gather_from(
-        vertices,
-        |vertex: &Vertex| GreatestLevel::from(vertex.level),
-    );
+    gather_from(vertices, |vertex| GreatestLevel::from(vertex.level));
 }
 
 // All that the tree alone gives: levels, places, the walk by place, first places and greatest levels.

@@ -126,7 +126,7 @@ fn greatest_over_a_tree(rt: HostRuntime) {
 #[test]
 fn sizes_of_a_tree(rt: HostRuntime) {
     let mut tree = tree();
-    gather_from(&mut tree, |_: &Vertex| Weight(1));
+    gather_from(&mut tree, |_| Weight(1));
     assert_eq!(rt; tree.map(|vertex| vertex.weight), [1, 1, 2, 2, 3, 6]);
 }
 

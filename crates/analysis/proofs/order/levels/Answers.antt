@@ -1,7 +1,7 @@
-use Rattle.std.proofs.Common.{length, refl, ap, arith}
+use Rattle.std.proofs.Common.{◌-◌, length, set, refl, ap, arith}
 use Rattle.pattern.specs.Forest.{level}
 use Rattle.pattern.proofs.Forest.{level_bound}
-use Rattle.analysis.specs.Tables.{level_from, parent_of}
+use Rattle.analysis.specs.Tables.{vertex, level_from, parent_of, with_level}
 use Rattle.analysis.proofs.Changes.{level_takes, only_none, only_then, same_parents}
 use Rattle.analysis.proofs.Passes.{holds_after, level_step}
 use Rattle.analysis.proofs.order.levels.Goals as goal
@@ -9,17 +9,15 @@ use Rattle.analysis.proofs.order.levels.Goals as goal
 pub loop-v-init : goal.loop-v-init
 loop-v-init c = (λ w p q. absurd (omega arith), only_none level_takes _)
 
-pub settle_level-requires : goal.settle_level-requires
-settle_level-requires c =
+pub level_below-requires : goal.level_below-requires
+level_below-requires c =
     let v = c.loop-v.v in
     let up = parent_of c.args.vertices.now in
     let g = c.requires.grows in
     let e = ap (λ f. f v) (same_parents level_from (λ _ _. refl) _ _ c.loop-v.invariant.1) in
     let s = g.stays v (omega arith) (omega arith) in
     record {
-      from = omega arith;
-      to = omega arith;
-      parent = omega arith;
+      within = omega arith;
       small = λ h.
           let few = c.requires.few in
           let r = g.rises v (omega arith) (omega arith) (omega arith) in
@@ -31,8 +29,11 @@ settle_level-requires c =
 pub loop-v-preserved : goal.loop-v-preserved
 loop-v-preserved c =
     let parents = same_parents level_from (λ _ _. refl) _ _ c.loop-v.invariant.1 in
-    let step = level_step (length c.args.vertices.now) _ c.loop-v.v c.loop-v.vertices c.settle_level.new.vertices
-    (omega arith) (omega arith) (omega arith) c.requires.grows parents c.settle_level.ensures c.loop-v.invariant.0 in
+    let v = c.loop-v.v in
+    let vs = c.loop-v.vertices in
+    let step = level_step (length c.args.vertices.now) _ v vs _ (omega arith) (omega arith) (omega arith)
+    c.requires.grows parents (ap (λ l. set vs (v - 1) (with_level (vertex vs v) l)) c.level_below.ensures)
+    c.loop-v.invariant.0 in
     (step.0, only_then level_takes _ _ _ c.loop-v.invariant.1 step.1)
 
 pub returns : goal.returns
