@@ -1,6 +1,7 @@
 // The gathering over small forests, with values worked out by hand.
-ghost use Rattle.std.specs.Prelude.{◌≡◌, ◌-◌, get_or, pos};
+ghost use Rattle.std.specs.Prelude.{◌≡◌, pos};
 ghost use Rattle.pattern.specs.Forest.{Grows};
+ghost use Rattle.gather.specs.Gatherings.{field_of};
 ghost use Rattle.gather.specs.Kinds.{weight, least_place, greatest_level};
 ghost use Rattle.std.proofs.Common.{rules};
 
@@ -87,7 +88,7 @@ fn made(parent: u32, weight: i64, place: u32, level: u32) -> Vertex
 
 // 6 is the root; 1 lies below 4, and 2 below 3 below 5.
 fn tree() -> [Vertex; 6]
-    ensures { Grows 6 (λ v. (get_or result (v - 1) (record { parent = 0; weight = pos 0; place = 0; level = 0 })).parent) }
+    ensures { Grows 6 (field_of ⟦<Vertex as Child>⟧.blank ⟦<Vertex as Child>⟧.above result) }
 {
     [
         made(4, 1, 4, 3),
@@ -132,7 +133,7 @@ fn sizes_of_a_tree(rt: HostRuntime) {
 
 // 2 and 4 are roots; the fifth record is no vertex of the forest.
 fn forest() -> [Vertex; 5]
-    ensures { Grows 4 (λ v. (get_or result (v - 1) (record { parent = 0; weight = pos 0; place = 0; level = 0 })).parent) }
+    ensures { Grows 4 (field_of ⟦<Vertex as Child>⟧.blank ⟦<Vertex as Child>⟧.above result) }
 {
     [
         made(2, i64::MAX, 0, 0),
