@@ -1,4 +1,5 @@
 // What is gathered up the tree: the vertex record as a node that holds a weight, a least place or a greatest level.
+// The three differ in the field alone, which only a macro could pass on, and no impl is written by a macro here.
 ghost use Rattle.analysis.specs.Tables.{no_vertex, with_weight, with_first, with_deepest};
 ghost use Rattle.std.proofs.Common.{rules};
 

@@ -30,6 +30,7 @@ fn levels(vertices: &mut [Vertex])
     ensures levels { Levelled (length vertices.new) vertices.new }
     ensures only { Only level_from vertices.old vertices.new }
 {
+    // By number, as each step reads another record.
     for v in (1..=vertices.len()).rev() {
         vertices[v - 1].level = level_below(vertices[v - 1].parent, vertices);
     }
@@ -98,6 +99,7 @@ fn places(vertices: &mut [Vertex])
     ensures only { Only place_from vertices.old vertices.new }
 {
     let mut free = vertices.len() as u32;
+    // By number, as each step writes another record too.
     for v in (1..=vertices.len()).rev() {
         free = take_place(v, free, vertices);
     }
@@ -123,6 +125,7 @@ fn walk_order(vertices: &mut [Vertex])
     ensures walk { Walked (length vertices.new) vertices.new }
     ensures only { Only at_from vertices.old vertices.new }
 {
+    // By number, as each step writes another record.
     for v in 1..=vertices.len() {
         note_place(v, vertices);
     }
