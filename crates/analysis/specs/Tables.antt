@@ -1,6 +1,6 @@
 -- How the tables of an analysis are read, a vertex by its number from 1 and an entry by its position from 0, and how
--- they change: one field of one record, or all of the first n records.
-use Rattle.std.specs.Prelude.{◌≡◌, ℕ, ◌-◌, ◌<◌, ◌≤◌, List, ◌++◌, map, length, take, drop, pos, slice_index_or}
+-- they change: one field of one record, or that field of any.
+use Rattle.std.specs.Prelude.{◌≡◌, ℕ, ◌-◌, ◌<◌, ◌≤◌, List, map, length, pos, slice_index_or}
 use Rattle.gather.specs.declared.kinds.Weight.{Weight}
 use Rattle.gather.specs.declared.kinds.LeastPlace.{LeastPlace}
 use Rattle.gather.specs.declared.kinds.GreatestLevel.{GreatestLevel}
@@ -61,10 +61,6 @@ abbrev pub end_of : End → (ℕ × ℕ) → ℕ
 end_of Low e = e.0
 end_of High e = e.1
 
--- each of the first n of xs changed by f, the others as they are
-unfoldable pub first_by : {X : Type 0} → ℕ → (X → X) → List X → List X
-first_by n f xs = map f (take n xs) ++ drop n xs
-
 abbrev pub with_link : Entry → ℕ → Entry
 with_link e l = record e { link = l }
 
@@ -101,10 +97,6 @@ with_at x y = record x { at = y }
 -- Nothing but what `mix` takes over from the second record has changed.
 abbrev pub Only : (Vertex → Vertex → Vertex) → List Vertex → List Vertex → Type 0
 Only mix before after = (v : ℕ) → vertex after v ≡ mix (vertex before v) (vertex after v)
-
--- the records past n are as they were
-abbrev pub SamePast : ℕ → List Vertex → List Vertex → Type 0
-SamePast n before after = (v : ℕ) → n < v → vertex after v ≡ vertex before v
 
 -- x, with the head of y, and so on
 abbrev pub head_from : Vertex → Vertex → Vertex
