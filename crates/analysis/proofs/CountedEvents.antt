@@ -28,7 +28,7 @@ use Rattle.sets.specs.Meaning.{Sets, Found, Merged, among, in_use, mergeable}
 use Rattle.analysis.specs.declared.records.End.TheVariants.{Low}
 use Rattle.analysis.specs.declared.records.Entry.{Entry}
 use Rattle.analysis.specs.declared.records.Vertex.{Vertex}
-use Rattle.analysis.specs.Tables.{vertex, no_vertex, entry, parent_of, pairs_of, pair_of, Sound, counts_from, Only}
+use Rattle.analysis.specs.Tables.{vertex, no_vertex, parent_of, pairs_of, pair_of, Sound, counts_from, Only}
 use Rattle.analysis.specs.Links.{newest, AllLinked}
 use Rattle.analysis.specs.Growth.{pattern_of, pattern_in, Fresh}
 use Rattle.analysis.specs.Counts.{Prepared, Passed, Ready, Tallied, Counting, TopsAt, TopsAreRoots, SameTops}

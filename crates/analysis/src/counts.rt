@@ -37,13 +37,13 @@ fn weigh(v: u32, by: i64, vertices: &mut [Vertex])
 }
 
 // Takes one off the weight of v's parent.
-fn take_child(v: u32, vertices: &mut [Vertex])
+fn take_child(v: usize, vertices: &mut [Vertex])
     requires from { 1 ≤ v }
     requires to { v ≤ length vertices.old }
     requires parent { parent_of vertices.old v ≤ length vertices.old }
     ensures { vertices.new ≡ child_taken vertices.old v }
 {
-    let parent = vertices[v as usize - 1].parent;
+    let parent = vertices[v - 1].parent;
     if parent != 0 {
         weigh(parent, -1, vertices);
     }
@@ -55,7 +55,7 @@ fn take_children(vertices: &mut [Vertex])
     requires grows { Grows (length vertices.old) (parent_of vertices.old) }
     ensures { ChildrenTaken (length vertices.old) vertices.old vertices.new }
 {
-    for v in 1..=vertices.len() as u32 {
+    for v in 1..=vertices.len() {
         take_child(v, vertices);
     }
 }
@@ -141,7 +141,7 @@ fn count_walk<S: AncestorSets>(vertices: &mut [Vertex], entries: &[Entry], sets:
     ensures only { Only counts_from vertices.old vertices.new }
     ensures size { (S.meaning sets.new).size ≡ (S.meaning sets.old).size }
 {
-    // The body writes the table that the walk is read from, so it goes by the place.
+    // By the place: the body writes the table that the walk is read from.
     for i in 0..vertices.len() {
         let x = vertices[i].at;
         count_vertex(x, vertices, entries, sets);

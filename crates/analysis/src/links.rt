@@ -5,7 +5,7 @@ ghost use Rattle.analysis.specs.Links.{Listed};
 
 use crate::records::{End, Entry, Vertex};
 
-// The vertex at one end of an entry.
+// The vertex at one end of an entry. The end has a name, not a closure: clauses say by it which lists there are.
 fn end_of(which: End, entry: Entry) -> u32
     ensures { result ≡ end_of which (pair_of entry) }
 {

@@ -1,4 +1,4 @@
-use Rattle.std.proofs.Common.{ap, refl, ◌∙◌, sym, subst, arith, rules}
+use Rattle.std.proofs.Common.{ap, refl, ◌∙◌, sym, subst, arith}
 use Rattle.analysis.specs.declared.records.End.TheVariants.{Low}
 use Rattle.analysis.specs.Growth.{pattern_in}
 use Rattle.analysis.proofs.Changes.{at_equal, counts_takes, only_none, only_then}

@@ -1,6 +1,5 @@
-use Rattle.std.proofs.Common.{◌-◌, refl, ap, ◌∙◌, subst, arith, rules}
+use Rattle.std.proofs.Common.{refl, ◌∙◌, arith, rules}
 use Rattle.pattern.proofs.Crowns.{row_top}
-use Rattle.analysis.specs.Tables.{entry}
 use Rattle.analysis.specs.Growth.{pattern_in}
 use Rattle.analysis.proofs.Changes.{parent_takes, only_none, only_then}
 use Rattle.analysis.proofs.Chains.{met_head, links_fall, lower_at, step_taken}
