@@ -1,5 +1,5 @@
 -- Neighbour lists by links: what the newest position is, and one more entry.
-use Rattle.std.proofs.Common.{◌≡◌, ℕ, zero, suc, ◌+◌, ◌-◌, ◌<◌, ◌≤◌, Bool, true, false, cond, eqb, ◌≢◌, ◌⊎◌, List, length, get_or, set, sym, refl, ap, ◌∙◌, subst, inl, inr, add-one, arith}
+use Rattle.std.proofs.Common.{◌≡◌, ℕ, zero, suc, ◌+◌, ◌-◌, ◌<◌, ◌≤◌, ◌≢◌, List, map, length, Some, get_or, set, sym, refl, ap, ◌∙◌, subst, inl, inr, add-one, arith}
 use Rattle.std.proofs.lemmas.Bool.{cases_eq}
 use Rattle.std.proofs.lemmas.Bool.Decides.{nat_tests}
 use Rattle.std.proofs.lemmas.List.{length-map, map-set, get_or-map, set-get_or, get_or-set_same, get_or-set_other}
@@ -7,10 +7,10 @@ use Rattle.analysis.specs.declared.records.End.{End}
 use Rattle.analysis.specs.declared.records.End.TheVariants.{Low, High}
 use Rattle.analysis.specs.declared.records.Entry.{Entry}
 use Rattle.analysis.specs.declared.records.Vertex.{Vertex}
-use Rattle.analysis.specs.Tables.{vertex, entry, no_entry, no_vertex, end_of, pairs_of, pair_of, with_link, with_head}
-use Rattle.analysis.specs.Tables.{SoundPair, Sound, first_by, Only}
-use Rattle.analysis.specs.Links.{newest, Linked, AllLinked, headed, linked}
-use Rattle.analysis.proofs.Changes.{vertex_same, vertex_other, get_or_front}
+use Rattle.analysis.specs.Tables.{vertex, entry, no_entry, end_of, pairs_of, pair_of, with_link, with_head}
+use Rattle.analysis.specs.Tables.{SoundPair, Sound, Only}
+use Rattle.analysis.specs.Links.{newest, Linked, AllLinked, Listed, Falling, Follows}
+use Rattle.analysis.proofs.Changes.{vertex_same, vertex_other, vertex_map}
 
 module _ (which : End) (ps : List (ℕ × ℕ)) where
   pub newest_within : (k v : ℕ) → newest which ps k v ≤ k
@@ -69,22 +69,27 @@ ends_at which n es ps k v e sound h i =
     let b = end_within which n _ (sound k (omega arith)) in
     record { is = is; from = omega arith; to = omega arith }
 
-pub linked_none : (which : End) (n : ℕ) (ps : List (ℕ × ℕ)) (before vs : List Vertex) (es : List Entry) →
-    n ≤ length before → vs ≡ first_by n (λ x. with_head x 0) before → Linked which n ps 0 vs es
+-- the vertices once the list of v begins at the position h, and the entries once the one at k goes on to the position l
+abbrev pub headed : List Vertex → ℕ → ℕ → List Vertex
+headed vs v h = set vs (v - 1) (with_head (vertex vs v) h)
+
+abbrev pub linked : List Entry → ℕ → ℕ → List Entry
+linked es k l = set es k (with_link (entry es k) l)
+
+pub linked_none : (which : End) (ps : List (ℕ × ℕ)) (before vs : List Vertex) (es : List Entry) →
+    vs ≡ map (λ x. with_head x 0) before → Linked which (length before) ps 0 vs es
 unfolding newest
-linked_none which n ps before vs es long e =
+linked_none which ps before vs es e =
     record {
       heads = λ v p q.
-          ap (λ t. (vertex t v).head) e ∙
-          ap (λ x. x.head) (get_or_front (λ x. with_head x 0) n before (v - 1) no_vertex (omega arith) (omega arith));
+          ap (λ t. (vertex t v).head) e ∙ ap (λ x. x.head) (vertex_map (λ x. with_head x 0) before v p q);
       links = λ j h. absurd (omega arith);
     }
 
 -- a link changes no pair
-pub pairs_kept : (es : List Entry) (k l : ℕ) (fs : List Entry) →
-    k < length es → fs ≡ linked es k l → pairs_of fs ≡ pairs_of es
-pairs_kept es k l fs h e =
-    ap pairs_of e ∙ map-set pair_of es k (with_link (entry es k) l) ∙
+pub pairs_kept : (es : List Entry) (k l : ℕ) → k < length es → pairs_of (linked es k l) ≡ pairs_of es
+pairs_kept es k l h =
+    map-set pair_of es k (with_link (entry es k) l) ∙
     ap (set (pairs_of es) k) (sym (get_or-map pair_of es k no_entry (0, 0) h)) ∙ set-get_or (pairs_of es) k (0, 0)
 
 -- one more entry is linked
@@ -123,14 +128,11 @@ module _ (which : End) (n : ℕ) (ps : List (ℕ × ℕ)) (k v : ℕ) (vs : List
             before.links j (omega arith)
       ]
 
-  pub linked_more : (ws : List Vertex) (fs : List Entry) →
-      ws ≡ headed vs v (k + 1) →
-      fs ≡ linked es k (vertex vs v).head → Linked which n ps (k + 1) ws fs
-  linked_more ws fs d e =
+  pub linked_more : Linked which n ps (k + 1) (headed vs v (k + 1)) (linked es k (vertex vs v).head)
+  linked_more =
       record {
-        heads = λ w p q.
-            ap (λ t. (vertex t w).head) d ∙ head_more w p q ∙ ap (λ m. newest which ps m w) (sym (add-one k));
-        links = λ j h. ap (λ t. (entry t j).link) e ∙ link_more j (omega arith);
+        heads = λ w p q. head_more w p q ∙ ap (λ m. newest which ps m w) (sym (add-one k));
+        links = λ j h. link_more j (omega arith);
       }
 
 pub linked_all : (which : End) (n : ℕ) (ps : List (ℕ × ℕ)) (k : ℕ) (vs : List Vertex) (es : List Entry) →
@@ -146,6 +148,16 @@ linked_only mix keeps which n ps k vs ws es only l =
     record {
       heads = λ v p q. ap (λ x. x.head) (only v) ∙ keeps (vertex vs v) (vertex ws v) ∙ l.heads v p q;
       links = l.links;
+    }
+
+pub listed_only : (mix : Vertex → Vertex → Vertex) → ((x y : Vertex) → (mix x y).head ≡ x.head) →
+    (which : End) (vs ws : List Vertex) (es : List Entry) →
+    length vs ≡ length ws → Only mix vs ws → Listed which vs es → Listed which ws es
+listed_only mix keeps which vs ws es long only l =
+    record {
+      sound = subst (λ n. Sound n (pairs_of es)) long l.sound;
+      lists = subst (λ n. AllLinked which n ws es) long
+          (linked_only mix keeps which (length vs) (pairs_of es) (length es) vs ws es only l.lists);
     }
 
 -- What a position met on the list of u says: it is none, or that of an entry with u at that end, whose link is an
@@ -167,33 +179,54 @@ met_head which n vs es u l p q =
           newest_at which (pairs_of es) (length es) u j (sym h ∙ e);
     }
 
--- the next position on the list is the newest before
-pub link_newest : (which : End) (n : ℕ) (vs : List Vertex) (es : List Entry) (u k : ℕ) →
-    AllLinked which n vs es → Met which n es u k → 1 ≤ k →
-    (entry es (k - 1)).link ≡ newest which (pairs_of es) (k - 1) u
-link_newest which n vs es u k l met p =
-    let b = met.within in
-    let h = l.links (k - 1) (omega arith) in
-    let e = pair_at es (pairs_of es) (k - 1) refl (omega arith) in
-    let at_u = sym (ap (end_of which) e) ∙ met.ends (k - 1) (omega arith) in
-    h ∙ ap (newest which (pairs_of es) (k - 1)) at_u
+-- each link is to an earlier entry
+pub links_fall : (which : End) (n : ℕ) (vs : List Vertex) (es : List Entry) → AllLinked which n vs es → Falling es
+links_fall which n vs es l k h =
+    let i = l.links k h in
+    let w = newest_within which (pairs_of es) k (end_of which (get_or (pairs_of es) k (0, 0))) in omega arith
 
--- the next position on the list, an earlier one
-pub met_link : (which : End) (n : ℕ) (vs : List Vertex) (es : List Entry) (u k : ℕ) →
-    AllLinked which n vs es → Met which n es u k → 1 ≤ k →
-    ((entry es (k - 1)).link < k) × Met which n es u (entry es (k - 1)).link
-met_link which n vs es u k l met p =
-    let b = met.within in
-    let i = link_newest which n vs es u k l met p in
-    let w = newest_within which (pairs_of es) (k - 1) u in (
-      omega arith,
+-- The entry e is taken at the position k of a list, which goes on to the position q.
+pub record Taken (es : List Entry) (k : ℕ) (e : Entry) (q : ℕ) : Type 0 where
+  pub some : 1 ≤ k
+  pub is : e ≡ entry es (k - 1)
+  pub next : q ≡ e.link
+
+pub step_taken : (es fs gs : List Entry) (k q : ℕ) (e : Entry) → fs ≡ es → Follows fs k (Some e) gs q → Taken es k e q
+step_taken es fs gs k q e same f =
+    record { some = f.step.0; is = f.step.1 ∙ ap (λ t. entry t (k - 1)) same; next = f.step.2 }
+
+module _ (which : End) (n : ℕ) (vs : List Vertex) (es : List Entry) (u k q : ℕ) (e : Entry)
+    (l : AllLinked which n vs es) (met : Met which n es u k) (taken : Taken es k e q) where
+  -- the next position on the list is the newest before
+  pub link_newest : q ≡ newest which (pairs_of es) (k - 1) u
+  link_newest =
+      let b = met.within in
+      let p = taken.some in
+      let h = l.links (k - 1) (omega arith) in
+      let at = pair_at es (pairs_of es) (k - 1) refl (omega arith) in
+      let at_u = sym (ap (end_of which) at) ∙ met.ends (k - 1) (omega arith) in
+      taken.next ∙ ap (λ x. x.link) taken.is ∙ h ∙ ap (newest which (pairs_of es) (k - 1)) at_u
+
+  pub met_link : Met which n es u q
+  met_link =
+      let b = met.within in
+      let p = taken.some in
+      let i = link_newest in
+      let w = newest_within which (pairs_of es) (k - 1) u in
       record {
         within = omega arith;
         ends = λ j f.
             ap (end_of which) (pair_at es (pairs_of es) j refl (omega arith)) ∙
             newest_at which (pairs_of es) (k - 1) u j (sym i ∙ f);
-      },
-    )
+      }
+
+  -- no position between is on the list
+  pub link_last : (j : ℕ) → q ≤ j → j < k - 1 → end_of which (pair_of (entry es j)) ≢ u
+  link_last j past h f =
+      let b = met.within in
+      let i = link_newest in
+      newest_last which (pairs_of es) (k - 1) u j (omega arith) h
+      (sym (ap (end_of which) (pair_at es (pairs_of es) j refl (omega arith))) ∙ f)
 
 -- no position from the head on is on the list of u
 pub head_last : (which : End) (n : ℕ) (vs : List Vertex) (es : List Entry) (u : ℕ) →
@@ -204,19 +237,6 @@ head_last which n vs es u l p q j past h e =
     newest_last which (pairs_of es) (length es) u j (omega arith) h
     (sym (ap (end_of which) (pair_at es (pairs_of es) j refl h)) ∙ e)
 
--- nor is one between a position met and its link
-pub link_last : (which : End) (n : ℕ) (vs : List Vertex) (es : List Entry) (u k : ℕ) →
-    Linked which n (pairs_of es) (length es) vs es → Met which n es u k → 1 ≤ k →
-    (j : ℕ) → (entry es (k - 1)).link ≤ j → j < k - 1 → end_of which (pair_of (entry es j)) ≢ u
-link_last which n vs es u k l met p j past h e =
-    let b = met.within in
-    let i = l.links (k - 1) (omega arith) in
-    let at = pair_at es (pairs_of es) (k - 1) refl (omega arith) in
-    let at_u = sym (ap (end_of which) at) ∙ met.ends (k - 1) (omega arith) in
-    let m = i ∙ ap (newest which (pairs_of es) (k - 1)) at_u in
-    newest_last which (pairs_of es) (k - 1) u j (omega arith) h
-    (sym (ap (end_of which) (pair_at es (pairs_of es) j refl (omega arith))) ∙ e)
-
 -- and what an entry says of its two vertices
 pub sound_at : (n : ℕ) (es : List Entry) (j : ℕ) →
     Sound n (pairs_of es) → j < length es → SoundPair n (pair_of (entry es j))
@@ -224,24 +244,26 @@ sound_at n es j sound h =
     subst (SoundPair n) (sym (pair_at es (pairs_of es) j refl h))
     (sound j (let l = length-map es pair_of in omega arith))
 
--- a lower neighbour of u, met on the list of u by the higher ends
-pub lower_at : (n : ℕ) (es : List Entry) (u k : ℕ) → Sound n (pairs_of es) → Met High n es u k → 1 ≤ k →
-    (1 ≤ (entry es (k - 1)).low) × ((entry es (k - 1)).low < u)
-lower_at n es u k sound met p =
+-- a lower neighbour of u, taken from the list of u by the higher ends
+pub lower_at : (n : ℕ) (es : List Entry) (u k q : ℕ) (e : Entry) →
+    Sound n (pairs_of es) → Met High n es u k → Taken es k e q → (1 ≤ e.low) × (e.low < u)
+lower_at n es u k q e sound met taken =
     let b = met.within in
+    let p = taken.some in
     let s = sound_at n es (k - 1) sound (omega arith) in
-    let e = met.ends (k - 1) (omega arith) in
     let f = s.from in
     let r = s.rises in
-    (omega arith, omega arith)
+    let i = met.ends (k - 1) (omega arith) in
+    subst (λ x. (1 ≤ x.low) × (x.low < u)) (sym taken.is) (omega arith, omega arith)
 
--- an upper neighbour of x, met on the list of x by the lower ends
-pub upper_at : (n : ℕ) (es : List Entry) (x k : ℕ) → Sound n (pairs_of es) → Met Low n es x k → 1 ≤ k →
-    (x < (entry es (k - 1)).high) × ((entry es (k - 1)).high ≤ n)
-upper_at n es x k sound met p =
+-- an upper neighbour of x, taken from the list of x by the lower ends
+pub upper_at : (n : ℕ) (es : List Entry) (x k q : ℕ) (e : Entry) →
+    Sound n (pairs_of es) → Met Low n es x k → Taken es k e q → (x < e.high) × (e.high ≤ n)
+upper_at n es x k q e sound met taken =
     let b = met.within in
+    let p = taken.some in
     let s = sound_at n es (k - 1) sound (omega arith) in
-    let e = met.ends (k - 1) (omega arith) in
     let r = s.rises in
     let t = s.within in
-    (omega arith, omega arith)
+    let i = met.ends (k - 1) (omega arith) in
+    subst (λ y. (x < y.high) × (y.high ≤ n)) (sym taken.is) (omega arith, omega arith)

@@ -1,47 +1,16 @@
--- Tables that change: the first n records by one function, or one record; and what stays then.
-use Rattle.std.proofs.Common.{◌≡◌, ℕ, zero, suc, ◌+◌, ◌-◌, ◌<◌, ◌≤◌, ◌≢◌, ◌⊎◌, List, [], ◌∷◌, length, get_or, set, sym, refl, ap, ◌∙◌, subst, inl, inr, add-one, arith}
+-- Tables that change: each record by one function, or one record; and what stays then.
+use Rattle.std.proofs.Common.{◌≡◌, ℕ, zero, suc, ◌+◌, ◌-◌, ◌<◌, ◌≤◌, ◌≢◌, List, [], ◌∷◌, map, take, drop, ◌++◌, length, get_or, set, sym, refl, ap, ◌∙◌, subst, inl, inr, arith}
 use mathlib.Core.Path.{fun_ext}
-use Rattle.std.proofs.lemmas.List.{get_or-set_same, get_or-set_other, set_past}
+use Rattle.std.proofs.lemmas.List.{get_or-map, get_or-set_same, get_or-set_other, set_past}
+use Rattle.std.proofs.lemmas.List.{get_or_default}
+use Rattle.std.proofs.lemmas.List.Edits.{map_over_more}
 use Rattle.std.proofs.lemmas.Bool.{cases_lt, cases_eq}
 use Rattle.pattern.specs.Forest.{Grows}
 use Rattle.gather.specs.Gatherings.{Gathered}
 use Rattle.analysis.specs.declared.records.Vertex.{Vertex}
-use Rattle.analysis.specs.Tables.{first_by, vertex, no_vertex, Only, head_from, parent_from, level_from}
+use Rattle.analysis.specs.Tables.{vertex, no_vertex, Only, head_from, parent_from, level_from}
 use Rattle.analysis.specs.Tables.{parent_of, weight_from, place_from, at_from, first_from, deepest_from, order_from}
-use Rattle.analysis.specs.Tables.{counts_from, SamePast}
-use Rattle.analysis.specs.Order.{Holds}
-
-module _ {X : Type 0} (f : X → X) where
-  first_by_suc : (xs : List X) (i : ℕ) (d : X) →
-      i < length xs → set (first_by i f xs) i (f (get_or (first_by i f xs) i d)) ≡ first_by (suc i) f xs
-  unfolding first_by
-  first_by_suc [] i d h = absurd (omega arith)
-  first_by_suc (x ∷ xs) zero d h = refl
-  first_by_suc (x ∷ xs) (suc i) d h = ap (λ t. f x ∷ t) (first_by_suc xs i d (omega arith))
-
-  pub first_by_none : (xs : List X) → xs ≡ first_by 0 f xs
-  unfolding first_by
-  first_by_none xs = refl
-
-  -- a loop's step
-  pub first_by_more : (xs ys : List X) (i : ℕ) (d : X) →
-      i < length xs → ys ≡ first_by i f xs → set ys i (f (get_or ys i d)) ≡ first_by (i + 1) f xs
-  first_by_more xs ys i d h e = ap (λ t. set t i (f (get_or t i d))) e ∙ rw add-one (first_by_suc xs i d h)
-
-  pub get_or_front : (n : ℕ) (xs : List X) (k : ℕ) (d : X) →
-      k < n → k < length xs → get_or (first_by n f xs) k d ≡ f (get_or xs k d)
-  unfolding first_by
-  get_or_front n [] k d l h = absurd (omega arith)
-  get_or_front zero (x ∷ xs) k d l h = absurd (omega arith)
-  get_or_front (suc n) (x ∷ xs) zero d l h = refl
-  get_or_front (suc n) (x ∷ xs) (suc k) d l h = get_or_front n xs k d (omega arith) (omega arith)
-
-  pub get_or_rest : (n : ℕ) (xs : List X) (k : ℕ) (d : X) → n ≤ k → get_or (first_by n f xs) k d ≡ get_or xs k d
-  unfolding first_by
-  get_or_rest zero xs k d l = refl
-  get_or_rest (suc n) [] k d l = refl
-  get_or_rest (suc n) (x ∷ xs) zero d l = absurd (omega arith)
-  get_or_rest (suc n) (x ∷ xs) (suc k) d l = get_or_rest n xs k d (omega arith)
+use Rattle.analysis.specs.Tables.{counts_from}
 
 -- what holds at a number holds at an equal one
 pub at_equal : {A : Type 0} (P : ℕ → A → Type 0) {a : A} {s t : ℕ} → P s a → s ≡ t → P t a
@@ -55,6 +24,18 @@ vertex_same vs v x p q = get_or-set_same vs (v - 1) x no_vertex (omega arith)
 pub vertex_other : (vs : List Vertex) (v w : ℕ) (x : Vertex) →
     1 ≤ v → 1 ≤ w → w ≢ v → vertex (set vs (v - 1) x) w ≡ vertex vs w
 vertex_other vs v w x p q ne = get_or-set_other vs (v - 1) (w - 1) x no_vertex (λ e. ne (omega arith))
+
+-- each record is changed by f
+pub vertex_map : (f : Vertex → Vertex) (vs : List Vertex) (v : ℕ) →
+    1 ≤ v → v ≤ length vs → vertex (map f vs) v ≡ f (vertex vs v)
+vertex_map f vs v p q = get_or-map f vs (v - 1) no_vertex no_vertex (omega arith)
+
+-- a loop's step, in which it is
+pub map_more : (f : Vertex → Vertex) (xs ys : List Vertex) (i : ℕ) → i < length xs → i < length ys →
+    ys ≡ map f (take i xs) ++ drop i xs →
+    set ys i (f (get_or ys i no_vertex)) ≡ map f (take (i + 1) xs) ++ drop (i + 1) xs
+map_more f xs ys i h l e =
+    let x = get_or ys i no_vertex in map_over_more f xs ys i x h e (get_or_default ys i no_vertex x l)
 
 -- A change that takes over some fields of the new record, and leaves the others.
 pub record Takes (mix : Vertex → Vertex → Vertex) : Type 0 where
@@ -108,35 +89,21 @@ module _ {mix : Vertex → Vertex → Vertex} (takes : Takes mix) where
         | inr ne ↦ let s = get_or-set_other vs k (v - 1) x no_vertex ne in cc
       ]
 
-  front_only : (n : ℕ) (f : Vertex → Vertex) (vs : List Vertex) → ((x : Vertex) → f x ≡ mix x (f x)) →
-      (k : ℕ) → get_or (first_by n f vs) k no_vertex ≡ mix (get_or vs k no_vertex) (get_or (first_by n f vs) k no_vertex)
-  unfolding first_by
-  front_only zero f vs e k = sym (takes.same (get_or vs k no_vertex))
-  front_only (suc n) f [] e k = sym (takes.same no_vertex)
-  front_only (suc n) f (x ∷ vs) e zero = e x
-  front_only (suc n) f (x ∷ vs) e (suc k) = front_only n f vs e k
-
   -- one record has changed
   pub only_set : (vs : List Vertex) (k : ℕ) (x : Vertex) (ws : List Vertex) →
       x ≡ mix (get_or vs k no_vertex) x → ws ≡ set vs k x → Only mix vs ws
   only_set vs k x ws e i = subst (Only mix vs) (sym i) (set_only vs k x e)
 
-  -- the first n records have
-  pub only_front : (n : ℕ) (f : Vertex → Vertex) (vs ws : List Vertex) →
-      ((x : Vertex) → f x ≡ mix x (f x)) → ws ≡ first_by n f vs → Only mix vs ws
-  only_front n f vs ws e i = subst (Only mix vs) (sym i) (λ v. front_only n f vs e (v - 1))
+  map_only : (f : Vertex → Vertex) (vs : List Vertex) → ((x : Vertex) → f x ≡ mix x (f x)) →
+      (k : ℕ) → get_or (map f vs) k no_vertex ≡ mix (get_or vs k no_vertex) (get_or (map f vs) k no_vertex)
+  map_only f [] e k = sym (takes.same no_vertex)
+  map_only f (x ∷ vs) e zero = e x
+  map_only f (x ∷ vs) e (suc k) = map_only f vs e k
 
--- The records past n stay.
-module _ (n : ℕ) (vs ws : List Vertex) where
-  pub past_then : (us : List Vertex) → SamePast n us vs → SamePast n vs ws → SamePast n us ws
-  past_then us f g v h = g v h ∙ f v h
-
-  pub past_set : (k : ℕ) (x : Vertex) → 1 ≤ k → k ≤ n → ws ≡ set vs (k - 1) x → SamePast n vs ws
-  past_set k x p q is v h =
-      ap (λ t. vertex t v) is ∙ vertex_other vs k v x p (omega arith) (λ e. omega arith)
-
-  pub past_front : (f : Vertex → Vertex) → ws ≡ first_by n f vs → SamePast n vs ws
-  past_front f is v h = ap (λ t. vertex t v) is ∙ get_or_rest f n vs (v - 1) no_vertex (omega arith)
+  -- all records have
+  pub only_map : (f : Vertex → Vertex) (vs ws : List Vertex) →
+      ((x : Vertex) → f x ≡ mix x (f x)) → ws ≡ map f vs → Only mix vs ws
+  only_map f vs ws e i = subst (Only mix vs) (sym i) (λ v. map_only f vs e (v - 1))
 
 -- A change that leaves the parents leaves the trees, and what a field that stays holds of them.
 module _ (mix : Vertex → Vertex → Vertex) (keeps : (x y : Vertex) → (mix x y).parent ≡ x.parent) where
@@ -145,13 +112,6 @@ module _ (mix : Vertex → Vertex → Vertex) (keeps : (x y : Vertex) → (mix x
 
   pub grows_only : (n : ℕ) (vs ws : List Vertex) → Only mix vs ws → Grows n (parent_of vs) → Grows n (parent_of ws)
   grows_only n vs ws only = subst (Grows n) (sym (same_parents vs ws only))
-
-  pub holds_only : {A : Type 0} (field : Vertex → A) (f : ℕ → (ℕ → ℕ) → ℕ → A) →
-      ((x y : Vertex) → field (mix x y) ≡ field x) →
-      (n : ℕ) (vs ws : List Vertex) → Only mix vs ws → Holds n field f vs → Holds n field f ws
-  holds_only field f stays n vs ws only h v p q =
-      ap field (only v) ∙ stays (vertex vs v) (vertex ws v) ∙ h v p q
-      ∙ ap (λ up. f n up v) (sym (same_parents vs ws only))
 
 -- A change of some fields is a change of more.
 pub only_more : (mix more : Vertex → Vertex → Vertex) → ((x y : Vertex) → mix x y ≡ more x (mix x y)) →

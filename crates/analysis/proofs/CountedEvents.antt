@@ -1,5 +1,5 @@
 -- The pass in the tables: one event more, the neighbours of one vertex, one place more.
-use Rattle.std.proofs.Common.{◌≡◌, ℕ, suc, ◌+◌, ◌-◌, ◌<◌, ◌≤◌, Bool, true, false, cond, not, ◌&&◌, eqb, ◌⊎◌, List, ◌∷◌, length, get_or, ℤ, ◌+ℤ◌, ◌-ℤ◌, neg_ℤ, Some, None, Option, unwrap_or, sym, refl, ap, ◌∙◌, subst, ap₂, inl, inr, arith, w64}
+use Rattle.std.proofs.Common.{◌≡◌, ℕ, suc, ◌+◌, ◌-◌, ◌<◌, ◌≤◌, Bool, true, false, cond, not, ◌&&◌, eqb, List, ◌∷◌, length, get_or, ◌+ℤ◌, ◌-ℤ◌, neg_ℤ, Some, None, Option, unwrap_or, sym, refl, ap, ◌∙◌, subst, ap₂, inl, inr, arith, w64}
 use Rattle.std.specs.Int.{int_wrap}
 use Rattle.std.proofs.lemmas.Int.{int_wrap-add_same}
 use Rattle.std.proofs.lemmas.List.{length-map}
@@ -7,7 +7,7 @@ use Rattle.std.proofs.lemmas.Bool.{cases_lt, cases_order, cond-true, cond-false,
 use Rattle.std.proofs.lemmas.Bool.Decides.{nat_tests}
 use Rattle.pattern.specs.Patterns.{Pattern, shares}
 use Rattle.pattern.specs.Elimination.{parent}
-use Rattle.pattern.specs.Forest.{Grows, place}
+use Rattle.pattern.specs.Forest.{Grows}
 use Rattle.pattern.specs.Analysis.{place_of, level_of}
 use Rattle.pattern.specs.Walks.{at_place}
 use Rattle.pattern.specs.Tops.{top_after}
@@ -28,13 +28,13 @@ use Rattle.sets.specs.Meaning.{Sets, Found, Merged, among, in_use, mergeable}
 use Rattle.analysis.specs.declared.records.End.TheVariants.{Low}
 use Rattle.analysis.specs.declared.records.Entry.{Entry}
 use Rattle.analysis.specs.declared.records.Vertex.{Vertex}
-use Rattle.analysis.specs.Tables.{vertex, no_vertex, entry, parent_of, pairs_of, pair_of, Sound, counts_from, Only}
+use Rattle.analysis.specs.Tables.{vertex, no_vertex, parent_of, pairs_of, pair_of, Sound, counts_from, Only}
 use Rattle.analysis.specs.Links.{newest, AllLinked}
-use Rattle.analysis.specs.Growth.{pattern_of, Fresh}
-use Rattle.analysis.specs.Counts.{Ready, Tallied, Counting, TopsAt, TopsAreRoots, SameTops}
+use Rattle.analysis.specs.Growth.{pattern_of, pattern_in, Fresh}
+use Rattle.analysis.specs.Counts.{Prepared, Passed, Ready, Tallied, Counting, TopsAt, TopsAreRoots, SameTops}
 use Rattle.analysis.specs.Counts.{Climbs, meets_at, EntryCounted}
 use Rattle.analysis.proofs.Tops.{among_true, among_parts}
-use Rattle.analysis.proofs.Chains.{Met, newest_last, pair_at, sound_at}
+use Rattle.analysis.proofs.Chains.{Met, Taken, newest_last, pair_at, sound_at, listed_only}
 
 -- a change of counts leaves the tree
 pub ready_only : (p : Pattern) (vs ws : List Vertex) → Only counts_from vs ws → Ready p vs → Ready p ws
@@ -43,6 +43,17 @@ ready_only p vs ws only ready =
       parents = λ v l h. ap (λ x. x.parent) (only v) ∙ ready.parents v l h;
       levels = λ v l h. ap (λ x. x.level) (only v) ∙ ready.levels v l h;
       walk = λ k l h. ap (λ x. x.at) (only k) ∙ ready.walk k l h;
+    }
+
+-- and all else that counting begins with
+pub prepared_only : (vs ws : List Vertex) (es : List Entry) →
+    length vs ≡ length ws → Only counts_from vs ws → Prepared vs es → Prepared ws es
+prepared_only vs ws es long only prepared =
+    record {
+      few = let f = prepared.few in omega arith;
+      lists = listed_only counts_from (λ _ _. refl) Low vs ws es long only prepared.lists;
+      tree = subst (λ n. Ready (pattern_of n es) ws) long
+          (ready_only (pattern_in vs es) vs ws only prepared.tree);
     }
 
 pub ready_grows : (p : Pattern) (vs : List Vertex) → Ready p vs → Grows p.order (parent_of vs)
@@ -235,25 +246,28 @@ pub head_newest : (n : ℕ) (vs : List Vertex) (es : List Entry) (x : ℕ) → A
 head_newest n vs es x l from to =
     l.heads x from to ∙ ap (λ m. newest Low (pairs_of es) m x) (sym (length-map es pair_of))
 
--- the entry met on the list of x
-pub at_entry : (n : ℕ) (es : List Entry) (x k : ℕ) → Sound n (pairs_of es) → Met Low n es x k → 1 ≤ k →
-    AtEntry (pattern_of n es) x (entry es (k - 1)).high k
-at_entry n es x k sound met from =
+-- the entry taken from the list of x
+pub at_entry : (n : ℕ) (es : List Entry) (x k q : ℕ) (e : Entry) → Sound n (pairs_of es) → Met Low n es x k →
+    Taken es k e q → AtEntry (pattern_of n es) x e.high k
+at_entry n es x k q e sound met taken =
     let w = met.within in
+    let from = taken.some in
     let l = length-map es pair_of in
-    let e = pair_at es (pairs_of es) (k - 1) refl (omega arith) in
+    let at = pair_at es (pairs_of es) (k - 1) refl (omega arith) in
     let s = sound_at n es (k - 1) sound (omega arith) in
     let m = met.ends (k - 1) (omega arith) in
     let r = s.rises in
     let f = s.from in
+    let t = s.within in
+    let i = ap (λ y. y.high) taken.is in
     record {
       from = from;
       within = omega arith;
-      low = sym (ap (λ y. y.0) e) ∙ m;
-      high = sym (ap (λ y. y.1) e);
+      low = sym (ap (λ y. y.0) at) ∙ m;
+      high = sym (ap (λ y. y.1) at) ∙ sym i;
       some = omega arith;
       rises = omega arith;
-      fits = s.within;
+      fits = omega arith;
     }
 
 -- the tops: as they begin, after a find, after a merge, and at the end
@@ -313,9 +327,9 @@ module _ (p : Pattern) (x : ℕ) (low : 1 ≤ x) (high : x ≤ p.order) (s : Set
       tops.tops y l h
       ∙ top_here p.order (parent p) (parents_grow p) t y (record { named = l; fits = h }) (omega arith)
 
-  pub tops_merged : (w : ℕ) (b : Bool) (r : Sets) →
-      w ≡ parent p x → 1 ≤ w → Merged s x w b r → TopsAt p (place_of p x) r
-  tops_merged w b r i some m =
+  -- x and its parent are two tops
+  pub parent_apart : (w : ℕ) → w ≡ parent p x → 1 ≤ w → mergeable s x w ≡ true
+  parent_apart w i some =
       let g = parents_grow p in
       let rises = g.rises x low high (omega arith) in
       let stays = g.stays x low high in
@@ -323,12 +337,24 @@ module _ (p : Pattern) (x : ℕ) (low : 1 ≤ x) (high : x ≤ p.order) (s : Set
       let at_x = own x low high (omega arith) in
       let at_w = own w some (omega arith) (subst (λ y. place_of p x ≤ place_of p y) (sym i) (omega arith)) in
       let e = tops.used in
-      let yes : mergeable s x w ≡ true = grind (arith, nat_tests) in
+      grind (arith, nat_tests)
+
+  pub tops_merged : (w : ℕ) (b : Bool) (r : Sets) →
+      w ≡ parent p x → 1 ≤ w → Merged s x w b r → TopsAt p (place_of p x) r
+  tops_merged w b r i some m =
+      let e = tops.used in
+      let yes = parent_apart w i some in
       let b_is = m.accepted in
       record {
         used = m.used ∙ e;
         tops = λ y l h. let f = step y l h in let k = m.tops y in grind (arith, nat_tests);
       }
+
+-- what is passed, of the same pattern, at an equal place
+pub passed_at : (es : List Entry) (n m i k : ℕ) (vs : List Vertex) (s : Sets) → n ≡ m → i ≡ k →
+    Passed (pattern_of n es) i vs s → Passed (pattern_of m es) k vs s
+passed_at es n m i k vs s same e passed =
+    subst (λ j. Passed (pattern_of m es) j vs s) e (subst (λ j. Passed (pattern_of j es) i vs s) same passed)
 
 -- the vertex at place i + 1
 pub record AtPlace (p : Pattern) (i x : ℕ) : Type 0 where

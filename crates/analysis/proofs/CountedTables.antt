@@ -1,5 +1,5 @@
 -- What the steps of counting do to the tables, record by record.
-use Rattle.std.proofs.Common.{◌≡◌, ℕ, zero, suc, ◌+◌, ◌-◌, ◌≤◌, Bool, true, false, cond, eqb, ◌≢◌, ◌⊎◌, List, [], ◌∷◌, length, set, ℤ, pos, negsuc, ◌+ℤ◌, ◌-ℤ◌, sym, refl, ap, ◌∙◌, subst, inl, inr, arith, w64}
+use Rattle.std.proofs.Common.{◌≡◌, ℕ, zero, suc, ◌+◌, ◌-◌, ◌≤◌, Bool, true, false, cond, eqb, ◌≢◌, List, [], ◌∷◌, length, ℤ, pos, negsuc, ◌+ℤ◌, ◌-ℤ◌, sym, refl, ap, ◌∙◌, subst, inl, inr, arith, w64}
 use Rattle.std.specs.Int.{int_wrap}
 use Rattle.std.proofs.lemmas.Int.{ints, int_wrap_fits, SFits-int_wrap, int_wrap-add_same}
 use Rattle.std.proofs.lemmas.List.{length-set, length-append}
@@ -12,47 +12,17 @@ use Rattle.pattern.proofs.Lists.{keep_next}
 use Rattle.gather.specs.Kinds.{weight, no_weight, summed}
 use Rattle.gather.specs.Gatherings.{Gathered}
 use Rattle.analysis.specs.declared.records.Vertex.{Vertex}
-use Rattle.analysis.specs.Tables.{vertex, no_vertex, parent_of, first_by, with_weight, with_rows, with_last}
+use Rattle.analysis.specs.Tables.{vertex, no_vertex, parent_of, with_weight, with_rows, with_last}
 use Rattle.analysis.specs.Tables.{Only, counts_from, weight_from}
-use Rattle.analysis.specs.Counts.{CountsChanged, Same64, uncounted, weighed, child_taken, ChildrenTaken, lengthened}
+use Rattle.analysis.specs.Counts.{Same64, weighed, child_taken, ChildrenTaken, lengthened}
 use Rattle.analysis.specs.Counts.{EntryCounted}
-use Rattle.analysis.proofs.Changes.{vertex_same, vertex_other, get_or_rest, counts_takes, weight_takes}
-use Rattle.analysis.proofs.Changes.{only_none, only_then, only_set, only_front, only_more, only_gathered}
+use Rattle.analysis.proofs.Changes.{vertex_same, vertex_other, counts_takes, weight_takes}
+use Rattle.analysis.proofs.Changes.{only_none, only_then, only_set, only_more, only_gathered}
 
--- changes of counts
-pub changed_none : (n : ℕ) (vs : List Vertex) → CountsChanged n vs vs
-changed_none n vs = record { only = only_none counts_takes vs; past = λ v h. refl }
-
-pub changed_then : (n : ℕ) (bs cs ds : List Vertex) →
-    CountsChanged n bs cs → CountsChanged n cs ds → CountsChanged n bs ds
-changed_then n bs cs ds f g =
-    record {
-      only = only_then counts_takes bs cs ds f.only g.only;
-      past = λ v h. g.past v h ∙ f.past v h;
-    }
-
-pub changed_set : (n v : ℕ) (vs : List Vertex) (x : Vertex) (ws : List Vertex) → 1 ≤ v → v ≤ n →
-    x ≡ counts_from (vertex vs v) x → ws ≡ set vs (v - 1) x → CountsChanged n vs ws
-changed_set n v vs x ws from to e is =
-    record {
-      only = only_set counts_takes vs (v - 1) x ws e is;
-      past = λ w h. ap (λ t. vertex t w) is ∙ vertex_other vs v w x from (omega arith) (λ i. omega arith);
-    }
-
-pub changed_front : (n : ℕ) (vs ws : List Vertex) → ws ≡ first_by n uncounted vs → CountsChanged n vs ws
-changed_front n vs ws is =
-    record {
-      only = only_front counts_takes n uncounted vs ws (λ _. refl) is;
-      past = λ v h. ap (λ t. vertex t v) is ∙ get_or_rest uncounted n vs (v - 1) no_vertex (omega arith);
-    }
-
-pub changed_gathered : (n : ℕ) (vs ws : List Vertex) →
-    Gathered no_weight summed no_vertex (λ x. x.parent) (λ x. x.weight) with_weight n vs ws → CountsChanged n vs ws
-changed_gathered n vs ws g =
-    record {
-      only = only_gathered no_weight summed _ _ with_weight counts_from counts_takes (λ _ _. refl) n vs ws g;
-      past = λ v h. g.others v h;
-    }
+-- the weights are gathered
+pub gathered_only : (n : ℕ) (vs ws : List Vertex) →
+    Gathered no_weight summed no_vertex (λ x. x.parent) (λ x. x.weight) with_weight n vs ws → Only counts_from vs ws
+gathered_only = only_gathered no_weight summed _ _ with_weight counts_from counts_takes (λ _ _. refl)
 
 -- the same number in 64 bits
 pub wrapped_same : (z : ℤ) → Same64 (int_wrap w64 z) z
@@ -68,9 +38,6 @@ module _ (vs ws : List Vertex) (v : ℕ) (by : ℤ) (from : 1 ≤ v) (to : v ≤
 
   pub weighed_only : Only weight_from vs ws
   weighed_only = only_set weight_takes vs (v - 1) heavier ws refl is
-
-  pub weighed_changed : (n : ℕ) → v ≤ n → CountsChanged n vs ws
-  weighed_changed n fits = changed_set n v vs heavier ws from fits refl is
 
   pub weighs : (w : ℕ) → 1 ≤ w →
       Same64 (vertex ws w).weight.0 ((vertex vs w).weight.0 +ℤ cond (eqb w v) by (pos 0))
@@ -96,7 +63,7 @@ less_one a true = refl
 less_one a false = refl
 
 -- x is counted as a neighbour of u that meets its row at q
-module _ (n : ℕ) (vs cs ds ws : List Vertex) (x u q : ℕ) (row : (1 ≤ u) × (u ≤ length vs))
+module _ (vs cs ds ws : List Vertex) (x u q : ℕ) (row : (1 ≤ u) × (u ≤ length vs))
     (met : (1 ≤ x) × (x ≤ length vs)) (top : (1 ≤ q) × (q ≤ length vs))
     (is_c : cs ≡ lengthened vs u x q) (is_d : ds ≡ weighed cs x (pos 1))
     (is_w : ws ≡ weighed ds q (negsuc 0)) where
@@ -113,7 +80,7 @@ module _ (n : ℕ) (vs cs ds ws : List Vertex) (x u q : ℕ) (row : (1 ≤ u) ×
       let h = top.1 in
       omega arith
 
-  heavier_only : (v : ℕ) → vertex ws v ≡ with_weight (vertex cs v) (vertex ws v).weight
+  heavier_only : Only weight_from cs ws
   heavier_only =
       only_then weight_takes cs ds ws (weighed_only cs ds x (pos 1) met.0 to_x is_d)
       (weighed_only ds ws q (negsuc 0) top.0 to_q is_w)
@@ -124,11 +91,10 @@ module _ (n : ℕ) (vs cs ds ws : List Vertex) (x u q : ℕ) (row : (1 ≤ u) ×
   at_other : (v : ℕ) → 1 ≤ v → v ≢ u → vertex cs v ≡ vertex vs v
   at_other v p ne = ap (λ t. vertex t v) is_c ∙ vertex_other vs u v longer row.0 p ne
 
-  pub entry_changed : u ≤ n → x ≤ n → q ≤ n → CountsChanged n vs ws
-  entry_changed un xn qn =
-      changed_then n vs cs ws (changed_set n u vs longer cs row.0 un refl is_c)
-      (changed_then n cs ds ws (weighed_changed cs ds x (pos 1) met.0 to_x is_d n xn)
-      (weighed_changed ds ws q (negsuc 0) top.0 to_q is_w n qn))
+  pub entry_only : Only counts_from vs ws
+  entry_only =
+      only_then counts_takes vs cs ws (only_set counts_takes vs (u - 1) longer cs refl is_c)
+      (only_more weight_from counts_from (λ _ _. refl) cs ws heavier_only)
 
   entry_rows : (v : ℕ) → 1 ≤ v →
       (vertex ws v).rows ≡
@@ -191,32 +157,30 @@ children_next k up w =
     go true = refl
     go false = refl
 
-pub taken_none : (n : ℕ) (vs : List Vertex) (k : ℕ) → k ≡ 0 → ChildrenTaken n k vs vs
+pub taken_none : (vs : List Vertex) → ChildrenTaken 0 vs vs
 unfolding children upto keep
-taken_none n vs k z =
-    subst (λ m. ChildrenTaken n m vs vs) (sym z)
-    (record {
+taken_none vs =
+    record {
       weights = λ v p q. ap (int_wrap w64) (plus_none (vertex vs v).weight.0);
       only = only_none weight_takes vs;
-      past = λ v h. refl;
-    })
+    }
 
 add_zero : (m : ℕ) → m + 0 ≡ m
 add_zero m = omega arith
 
 -- one more child takes one off the weight of its parent
-module _ (n k : ℕ) (bs vs ws : List Vertex) (fits : suc k ≤ n) (long : n ≤ length vs) (grows : Grows n (parent_of bs))
-    (before : ChildrenTaken n k bs vs) (is : ws ≡ child_taken vs (suc k)) where
+module _ (k : ℕ) (bs vs ws : List Vertex) (fits : suc k ≤ length bs) (long : length bs ≤ length vs)
+    (grows : Grows (length bs) (parent_of bs)) (before : ChildrenTaken k bs vs) (is : ws ≡ child_taken vs (suc k)) where
   abbrev up : ℕ → ℕ
   up = parent_of bs
 
   same_up : parent_of vs (suc k) ≡ up (suc k)
   same_up = ap (λ x. x.parent) (before.only (suc k))
 
-  taken_root : parent_of vs (suc k) ≡ 0 → ChildrenTaken n (suc k) bs ws
+  taken_root : parent_of vs (suc k) ≡ 0 → ChildrenTaken (suc k) bs ws
   taken_root z =
       let stays = is ∙ cond-true (eqb (parent_of vs (suc k)) 0) _ _ (eq-eqb (parent_of vs (suc k)) 0 z) in
-      subst (ChildrenTaken n (suc k) bs) (sym stays)
+      subst (ChildrenTaken (suc k) bs) (sym stays)
       (record {
         weights = λ w p q.
             let r : up (suc k) ≡ 0 = sym same_up ∙ z in
@@ -228,14 +192,13 @@ module _ (n k : ℕ) (bs vs ws : List Vertex) (fits : suc k ≤ n) (long : n ≤
             ∙ add_zero (length (children k up w))) in
             before.weights w p q ∙ ap (λ y. int_wrap w64 ((vertex bs w).weight.0 -ℤ pos y)) f;
         only = before.only;
-        past = before.past;
       })
 
   one_fewer : (a : ℤ) (m : ℕ) (b : Bool) → a -ℤ pos m +ℤ cond b (negsuc 0) (pos 0) ≡ a -ℤ pos (m + cond b 1 0)
   one_fewer a m true = omega (arith, ints)
   one_fewer a m false = omega (arith, ints)
 
-  taken_child : (w : ℕ) → parent_of vs (suc k) ≡ w → w ≢ 0 → ChildrenTaken n (suc k) bs ws
+  taken_child : (w : ℕ) → parent_of vs (suc k) ≡ w → w ≢ 0 → ChildrenTaken (suc k) bs ws
   taken_child w i ne =
       let other = ne_eqb (parent_of vs (suc k)) 0 (λ z. ne (sym i ∙ z)) in
       let by = is ∙ cond-false (eqb (parent_of vs (suc k)) 0) _ _ other
@@ -255,24 +218,21 @@ module _ (n k : ℕ) (bs vs ws : List Vertex) (fits : suc k ≤ n) (long : n ≤
             ∙ ap (int_wrap w64) (one_fewer (vertex bs v).weight.0 m (eqb v w))
             ∙ ap (λ y. int_wrap w64 ((vertex bs v).weight.0 -ℤ pos y)) (sym f);
         only = only_then weight_takes bs vs ws before.only (weighed_only vs ws w (negsuc 0) from to by);
-        past = λ v h.
-            (weighed_changed vs ws w (negsuc 0) from to by n (omega arith)).past v h ∙ before.past v h;
       }
 
-  pub taken_next : ChildrenTaken n (suc k) bs ws
+  pub taken_next : ChildrenTaken (suc k) bs ws
   taken_next =
       elim (cases_eq (parent_of vs (suc k)) 0)
       [ inl z ↦ taken_root z | inr ne ↦ taken_child (parent_of vs (suc k)) refl ne ]
 
 -- a loop's step
-pub taken_more : (n c m : ℕ) (bs vs ws : List Vertex) → 1 ≤ c → c ≤ n → m ≡ c → n ≤ length vs → Grows n (parent_of bs) →
-    ChildrenTaken n (c - 1) bs vs → ws ≡ child_taken vs c → ChildrenTaken n m bs ws
-taken_more n zero m bs vs ws from to i long grows before is = absurd (omega arith)
-taken_more n (suc k) m bs vs ws from to i long grows before is =
-    subst (λ j. ChildrenTaken n j bs ws) (sym i)
-    (taken_next n k bs vs ws to long grows
-    (subst (λ j. ChildrenTaken n j bs vs) (let e : suc k - 1 ≡ k = omega arith in e) before) is)
+pub taken_more : (c m : ℕ) (bs vs ws : List Vertex) → 1 ≤ c → c ≤ length bs → m ≡ c → length bs ≤ length vs →
+    Grows (length bs) (parent_of bs) → ChildrenTaken (c - 1) bs vs → ws ≡ child_taken vs c → ChildrenTaken m bs ws
+taken_more zero m bs vs ws from to i long grows before is = absurd (omega arith)
+taken_more (suc k) m bs vs ws from to i long grows before is =
+    subst (λ j. ChildrenTaken j bs ws) (sym i)
+    (taken_next k bs vs ws to long grows
+    (subst (λ j. ChildrenTaken j bs vs) (let e : suc k - 1 ≡ k = omega arith in e) before) is)
 
-pub taken_changed : (n k : ℕ) (bs vs : List Vertex) → ChildrenTaken n k bs vs → CountsChanged n bs vs
-taken_changed n k bs vs taken =
-    record { only = only_more weight_from counts_from (λ _ _. refl) bs vs taken.only; past = taken.past }
+pub taken_only : (k : ℕ) (bs vs : List Vertex) → ChildrenTaken k bs vs → Only counts_from bs vs
+taken_only k bs vs taken = only_more weight_from counts_from (λ _ _. refl) bs vs taken.only

@@ -35,10 +35,10 @@ use Rattle.pattern.proofs.Agree.{
 }
 use Rattle.analysis.specs.declared.records.Vertex.{Vertex}
 use Rattle.analysis.specs.Tables.{vertex, parent_of, with_place, with_last, with_at}
-use Rattle.analysis.specs.Tables.{place_from, at_from, Only, SamePast}
+use Rattle.analysis.specs.Tables.{place_from, at_from, Only}
 use Rattle.analysis.specs.Order.{size_in, next_place, placed_at, freed_to, taken, free_after, noted}
 use Rattle.analysis.specs.Order.{Ordered, OrderedAs}
-use Rattle.analysis.proofs.Changes.{vertex_same, vertex_other, place_takes, at_takes, only_set, only_then, past_set}
+use Rattle.analysis.proofs.Changes.{vertex_same, vertex_other, place_takes, at_takes, only_set, only_then}
 
 -- One place is taken: what the table then holds.
 module _ (vs : List Vertex) (free x : ℕ) (from : 1 ≤ x) (to : x ≤ length vs) (apart : parent_of vs x ≢ x)
@@ -208,13 +208,6 @@ module _ (n : ℕ) (up : ℕ → ℕ) (grows : Grows n up) where
       place_only : Only place_from vs ws
       place_only = subst (Only place_from vs) (sym is) (taken_only vs free x from (omega arith) apart high)
 
-      place_past : SamePast n vs ws
-      place_past w h =
-          let e = parent_is in
-          let s = grows.stays x from to in
-          ap (λ t. vertex t w) is
-          ∙ taken_other vs free x from (omega arith) apart high w (omega arith) (λ i. omega arith) (λ i. omega arith)
-
       own_is : vertex ws x ≡ with_last (with_place (vertex vs x) (place n up x)) (place n up x - 1)
       own_is =
           ap (λ t. vertex t x) is ∙ taken_own vs free x from (omega arith) apart high
@@ -277,8 +270,8 @@ module _ (n : ℕ) (up : ℕ → ℕ) (grows : Grows n up) where
             ];
           }
 
-      pub place_step : PlacesPast n up (x - 1) after ws × Only place_from vs ws × SamePast n vs ws
-      place_step = (places_more, place_only, place_past)
+      pub place_step : PlacesPast n up (x - 1) after ws × Only place_from vs ws
+      place_step = (places_more, place_only)
 
   -- The walk: of the vertices before v, each is noted at its place.
   module _ (v : ℕ) (vs ws : List Vertex) (from : 1 ≤ v) (to : v ≤ n) (long : n ≤ length vs)
@@ -291,11 +284,6 @@ module _ (n : ℕ) (up : ℕ → ℕ) (grows : Grows n up) where
 
     walk_only : Only at_from vs ws
     walk_only = only_set at_takes vs (place n up v - 1) (with_at (vertex vs (place n up v)) v) ws refl spotted
-
-    walk_past : SamePast n vs ws
-    unfolding this
-    walk_past =
-        let (low, high) = place_bounds n up grows v this in past_set n vs ws (place n up v) _ low high spotted
 
     walk_more : ((w : ℕ) → 1 ≤ w → w < v → (vertex vs (place n up w)).at ≡ w) →
         (w : ℕ) → 1 ≤ w → w < v + 1 → (vertex ws (place n up w)).at ≡ w
@@ -316,8 +304,8 @@ module _ (n : ℕ) (up : ℕ → ℕ) (grows : Grows n up) where
         ]
 
     pub walk_step : ((w : ℕ) → 1 ≤ w → w < v → (vertex vs (place n up w)).at ≡ w) →
-        ((w : ℕ) → 1 ≤ w → w < v + 1 → (vertex ws (place n up w)).at ≡ w) × Only at_from vs ws × SamePast n vs ws
-    walk_step before = (walk_more before, walk_only, walk_past)
+        ((w : ℕ) → 1 ≤ w → w < v + 1 → (vertex ws (place n up w)).at ≡ w) × Only at_from vs ws
+    walk_step before = (walk_more before, walk_only)
 
   pub walk_whole : (vs : List Vertex) → ((w : ℕ) → 1 ≤ w → w < n + 1 → (vertex vs (place n up w)).at ≡ w) →
       (k : ℕ) → 1 ≤ k → k ≤ n → (vertex vs k).at ≡ at_place n up k

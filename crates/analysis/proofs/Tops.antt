@@ -1,7 +1,7 @@
 -- Ancestor sets and the parents they give: what a find and a merge come to, and the rows by which the trees grow.
-use Rattle.std.proofs.Common.{◌≡◌, ℕ, ◌-◌, ◌<◌, ◌≤◌, Bool, true, false, cond, eqb, ◌≢◌, List, length, set, Some, None, Option, unwrap_or, sym, refl, ap, ◌∙◌, subst, inl, inr, arith}
+use Rattle.std.proofs.Common.{◌≡◌, ℕ, ◌-◌, ◌<◌, ◌≤◌, Bool, true, cond, eqb, ◌≢◌, List, map, length, set, Some, None, Option, sym, refl, ap, ◌∙◌, subst, inl, inr, arith}
 use Rattle.std.proofs.lemmas.List.{length-map}
-use Rattle.std.proofs.lemmas.Bool.{cases_eq, cases_lt, cases_Bool, ne_eqb, eq-eqb, cond-true, cond-false}
+use Rattle.std.proofs.lemmas.Bool.{cases_eq, cases_lt, ne_eqb, eq-eqb, cond-true, cond-false}
 use Rattle.std.proofs.lemmas.Bool.Decides.{nat_tests}
 use Rattle.pattern.specs.Patterns.{Pattern, shares}
 use Rattle.pattern.specs.Forest.{Grows}
@@ -10,17 +10,17 @@ use Rattle.pattern.proofs.Tree.{parents_grow}
 use Rattle.pattern.proofs.Entries.{entry_shares, shares_entry}
 use Rattle.pattern.proofs.Crowns.{adopts_none, adopts_one, adopts_taken, adopts_keeps}
 use Rattle.pattern.proofs.Crowns.{rows_start, row_begin, row_step, row_end, rows_end, rows_end_tops}
-use Rattle.sets.specs.Meaning.{Sets, Sound, Found, Merged, among, in_use, mergeable}
+use Rattle.sets.specs.Meaning.{Sets, Sound, Found, Merged, among, mergeable}
 use Rattle.analysis.specs.declared.records.End.TheVariants.{High}
 use Rattle.analysis.specs.declared.records.Entry.{Entry}
 use Rattle.analysis.specs.declared.records.Vertex.{Vertex}
 use Rattle.analysis.specs.Tables as tables
 use Rattle.analysis.specs.Tables.{entry, pair_of, pairs_of, vertex, no_vertex, parent_of}
-use Rattle.analysis.specs.Tables.{with_parent, parent_from, Only, first_by}
-use Rattle.analysis.specs.Links.{Linked}
-use Rattle.analysis.specs.Growth.{pattern_of, Fresh, Adopted, adopted, Tree, Rooted, KeptPast}
-use Rattle.analysis.proofs.Changes.{vertex_same, vertex_other, parent_takes, only_none, only_set, get_or_front, get_or_rest}
-use Rattle.analysis.proofs.Chains.{Met, met_head, met_link, head_last, link_last, pair_at, sound_at, lower_at}
+use Rattle.analysis.specs.Tables.{with_parent, parent_from, Only}
+use Rattle.analysis.specs.Links.{Linked, AllLinked}
+use Rattle.analysis.specs.Growth.{pattern_of, pattern_in, Fresh, Adopted, adopted, Tree, Rooted}
+use Rattle.analysis.proofs.Changes.{vertex_same, vertex_other, parent_takes, only_none, only_set, vertex_map}
+use Rattle.analysis.proofs.Chains.{Met, Taken, met_head, met_link, head_last, link_last, pair_at, sound_at, lower_at}
 
 pub among_true : (m v : ℕ) → 1 ≤ v → v ≤ m → among m v ≡ true
 among_true m v p q = grind (arith, nat_tests)
@@ -33,25 +33,14 @@ pub top_within : (s : Sets) (v : ℕ) → Sound s → 1 ≤ v → v ≤ s.used �
 top_within s v sound p q = among_parts s.used (s.top v) (sound.top_in_use v (among_true s.used v p q))
 
 -- a find answers the top of a vertex in use
-pub found_top : (s t : Sets) (v d q : ℕ) (r : Option ℕ) →
-    q ≡ unwrap_or r d → Found s v r t → 1 ≤ v → v ≤ s.used → q ≡ s.top v
-found_top s t v d q r e f from to =
-    e ∙ ap (λ o. unwrap_or o d) f.answer ∙
-    ap (λ b. unwrap_or (cond b (Some (s.top v)) None) d) (among_true s.used v from to)
+pub found_some : (s t : Sets) (v : ℕ) (o : Option ℕ) →
+    Found s v o t → 1 ≤ v → v ≤ s.used → o ≡ Some (s.top v)
+found_some s t v o f from to =
+    f.answer ∙ ap (λ b. cond b (Some (s.top v)) None) (among_true s.used v from to)
 
--- the top of a vertex in use, or else d
-pub found_within : (s t : Sets) (v d : ℕ) (r : Option ℕ) →
-    Sound s → Found s v r t → 1 ≤ d → d ≤ s.used → (1 ≤ unwrap_or r d) × (unwrap_or r d ≤ s.used)
-found_within s t v d r sound f p q =
-    elim (cases_Bool (in_use s v)) [
-      | inl is ↦
-          let e = ap (λ o. unwrap_or o d) f.answer ∙ ap (λ b. unwrap_or (cond b (Some (s.top v)) None) d) is in
-          let b = among_parts s.used (s.top v) (sound.top_in_use v is) in
-          (omega arith, omega arith)
-      | inr out ↦
-          let e = ap (λ o. unwrap_or o d) f.answer ∙ ap (λ b. unwrap_or (cond b (Some (s.top v)) None) d) out in
-          (omega arith, omega arith)
-    ]
+pub found_top : (s t : Sets) (v r : ℕ) (o : Option ℕ) →
+    o ≡ Some r → Found s v o t → 1 ≤ v → v ≤ s.used → r ≡ s.top v
+found_top s t v r o e f from to = let i = found_some s t v o f from to in cc
 
 pub adopted_other : (vs : List Vertex) (r q u : ℕ) →
     r ≡ q → r ≢ u → set vs (r - 1) (with_parent (vertex vs r) u) ≡ adopted vs q u
@@ -59,23 +48,27 @@ adopted_other vs r q u i ne =
     ap (λ m. set vs (m - 1) (with_parent (vertex vs m) u)) i ∙
     sym (ap (λ b. cond b vs (set vs (q - 1) (with_parent (vertex vs q) u))) (ne_eqb q u (λ e. ne (i ∙ e))))
 
--- the set of x is found, and its top put below u
-pub merged_tops : (s t w : Sets) (x u r : ℕ) (o : Option ℕ) (b : Bool) →
-    Sound s → Found s x o t → Merged t r u b w → r ≡ s.top x → r ≢ u → 1 ≤ x → x ≤ s.used → 1 ≤ u → u ≤ s.used →
-    s.top u ≡ u → Adopted s x u w
-merged_tops s t w x u r o b sound f m i ne px qx pu qu own =
-    let within = top_within s x sound px qx in
-    let same = sound.top_own x (among_true s.used x px qx) in
-    let at_r : t.top r ≡ r = f.tops r ∙ ap s.top i ∙ same ∙ sym i in
-    let at_u : t.top u ≡ u = f.tops u ∙ own in
-    let n = f.used in
-    let yes : mergeable t r u ≡ true = grind (arith, nat_tests) in
-    let b_is = m.accepted in
-    record {
-      size = m.size ∙ f.size;
-      used = m.used ∙ f.used;
-      tops = λ v. let e = f.tops v in let h = m.tops v in grind (arith, nat_tests);
-    }
+-- the set of x is found, and its top is put below u
+module _ (s t : Sets) (x u r : ℕ) (o : Option ℕ) (sound : Sound s) (f : Found s x o t) (i : r ≡ s.top x) (ne : r ≢ u)
+    (px : 1 ≤ x) (qx : x ≤ s.used) (pu : 1 ≤ u) (qu : u ≤ s.used) (own : s.top u ≡ u) where
+  pub two_tops : mergeable t r u ≡ true
+  two_tops =
+      let within = top_within s x sound px qx in
+      let same = sound.top_own x (among_true s.used x px qx) in
+      let at_r : t.top r ≡ r = f.tops r ∙ ap s.top i ∙ same ∙ sym i in
+      let at_u : t.top u ≡ u = f.tops u ∙ own in
+      let n = f.used in
+      grind (arith, nat_tests)
+
+  pub merged_tops : (w : Sets) (b : Bool) → Merged t r u b w → Adopted s x u w
+  merged_tops w b m =
+      let b_is = m.accepted in
+      let yes = two_tops in
+      record {
+        size = m.size ∙ f.size;
+        used = m.used ∙ f.used;
+        tops = λ v. let e = f.tops v in let h = m.tops v in grind (arith, nat_tests);
+      }
 
 module _ (r u : ℕ) (vs ws : List Vertex) (is : ws ≡ adopted vs r u) where
   adopted_none : r ≡ u → ws ≡ vs
@@ -89,15 +82,6 @@ module _ (r u : ℕ) (vs ws : List Vertex) (is : ws ≡ adopted vs r u) where
       elim (cases_eq r u) [
         | inl e ↦ subst (Only parent_from vs) (sym (adopted_none e)) (only_none parent_takes vs)
         | inr ne ↦ only_set parent_takes vs (r - 1) (with_parent (vertex vs r) u) ws refl (adopted_one ne)
-      ]
-
-  pub past_adopted : (n : ℕ) → 1 ≤ r → r ≤ n → KeptPast n vs ws
-  past_adopted n some fits v past =
-      elim (cases_eq r u) [
-        | inl e ↦ ap (λ t. vertex t v) (adopted_none e)
-        | inr ne ↦
-            ap (λ t. vertex t v) (adopted_one ne) ∙
-            vertex_other vs r v (with_parent (vertex vs r) u) some (omega arith) (λ e. omega arith)
       ]
 
   parent_adopted : r ≢ u → 1 ≤ r → r ≤ length vs → (v : ℕ) → 1 ≤ v →
@@ -157,33 +141,33 @@ module _ (n : ℕ) (es : List Entry) (u k : ℕ) (sound : tables.Sound n (pairs_
       }
 
   -- the entry at position k is adopted: on to its link
-  pub row_at_link : (vs : List Vertex) (P T P' T' : ℕ → ℕ) → Linked High n (pairs_of es) (length es) vs es →
-      1 ≤ k → u ≤ n → RowAt n es u k P T → Adopts n (entry es (k - 1)).low u P T P' T' →
-      RowAt n es u (entry es (k - 1)).link P' T'
-  row_at_link vs P T P' T' linked some fits row adopts =
-      record {
-        met = (met_link High n vs es u k linked row.met some).1;
-        in_row = row_step (pattern_of n es) (u - 1) u low P T P' T' x.1 (met_shares row.met some) row.in_row
-            adopts;
-        taken = λ j past h e. elim (cases_lt j (k - 1)) [
-          | inl older ↦ absurd (link_last High n vs es u k linked row.met some j past older e)
-          | inr here ↦ elim (cases_eq j (k - 1)) [
-            | inl i ↦
-                ap (λ m. T' (entry es m).low) i ∙
-                adopts_taken n low u P T P' T' adopts x.0 (omega (arith, x.1, fits))
-            | inr newer ↦
-                let s = sound_at n es j sound h in
-                adopts_keeps n low u P T P' T' adopts (entry es j).low s.from (omega (arith, s.rises, s.within))
-                (row.taken j (omega arith) h e)
-          ]
-        ];
-      }
-    where
-      low : ℕ
-      low = (entry es (k - 1)).low
+  module _ (vs : List Vertex) (P T P' T' : ℕ → ℕ) (e : Entry) (q : ℕ) (linked : AllLinked High n vs es) (fits : u ≤ n)
+      (row : RowAt n es u k P T) (taken : Taken es k e q) (adopts : Adopts n e.low u P T P' T') where
+    low : (1 ≤ e.low) × (e.low < u)
+    low = lower_at n es u k q e sound row.met taken
 
-      x : (1 ≤ (entry es (k - 1)).low) × ((entry es (k - 1)).low < u)
-      x = lower_at n es u k sound row.met some
+    taken_shares : shares (pattern_of n es) e.low u ≡ true
+    taken_shares = subst (λ x. shares (pattern_of n es) x.low u ≡ true) (sym taken.is) (met_shares row.met taken.some)
+
+    here : T' (entry es (k - 1)).low ≡ u
+    here = ap (λ x. T' x.low) (sym taken.is) ∙ adopts_taken n e.low u P T P' T' adopts low.0 (omega (arith, low.1, fits))
+
+    pub row_at_link : RowAt n es u q P' T'
+    row_at_link =
+        record {
+          met = met_link High n vs es u k q e linked row.met taken;
+          in_row = row_step (pattern_of n es) (u - 1) u e.low P T P' T' low.1 taken_shares row.in_row adopts;
+          taken = λ j past h f. elim (cases_lt j (k - 1)) [
+            | inl older ↦ absurd (link_last High n vs es u k q e linked row.met taken j past older f)
+            | inr at ↦ elim (cases_eq j (k - 1)) [
+              | inl i ↦ ap (λ m. T' (entry es m).low) i ∙ here
+              | inr newer ↦
+                  let s = sound_at n es j sound h in
+                  adopts_keeps n e.low u P T P' T' adopts (entry es j).low s.from (omega (arith, s.rises, s.within))
+                  (row.taken j (omega arith) h f)
+            ]
+          ];
+        }
 
   -- no position is left: the row is done
   pub row_at_none : (P T : ℕ → ℕ) → k ≡ 0 → RowAt n es u k P T → AfterRows (pattern_of n es) u P T
@@ -199,22 +183,18 @@ module _ (n : ℕ) (es : List Entry) (u k : ℕ) (sound : tables.Sound n (pairs_
           row.taken j (omega arith) fits (ap (λ q. q.1) at ∙ second)
 
 -- no row is done, and all are roots
-pub rows_none : (n : ℕ) (es : List Entry) (s : Sets) (vs ws : List Vertex) →
-    n ≤ length vs → ws ≡ first_by n (λ x. with_parent x 0) vs → Fresh n s →
-    AfterRows (pattern_of n es) 0 (parent_of ws) s.top
-rows_none n es s vs ws long is fresh =
-    rows_start (pattern_of n es) (parent_of ws) s.top
-    (λ v p q.
-    ap (λ t. parent_of t v) is ∙
-    ap (λ x. x.parent) (get_or_front (λ x. with_parent x 0) n vs (v - 1) no_vertex (omega arith) (omega arith)))
+pub rows_none : (es : List Entry) (s : Sets) (vs ws : List Vertex) →
+    ws ≡ map (λ x. with_parent x 0) vs → Fresh (length vs) s → AfterRows (pattern_in vs es) 0 (parent_of ws) s.top
+rows_none es s vs ws is fresh =
+    rows_start (pattern_in vs es) (parent_of ws) s.top
+    (λ v p q. ap (λ t. parent_of t v) is ∙ ap (λ x. x.parent) (vertex_map (λ x. with_parent x 0) vs v p q))
     fresh.own
 
-pub past_begun : (n : ℕ) (vs ws : List Vertex) → ws ≡ first_by n (λ x. with_parent x 0) vs → KeptPast n vs ws
-past_begun n vs ws is v past =
-    ap (λ t. vertex t v) is ∙ get_or_rest (λ x. with_parent x 0) n vs (v - 1) no_vertex (omega arith)
-
-pub rows_at : (p : Pattern) (u w : ℕ) (P T : ℕ → ℕ) → u ≡ w → AfterRows p u P T → AfterRows p w P T
-rows_at p u w P T e after = subst (λ m. AfterRows p m P T) e after
+-- the last row is done
+pub rows_all : (es : List Entry) (n m u : ℕ) (P T : ℕ → ℕ) → n ≡ m → u ≡ m →
+    AfterRows (pattern_of n es) u P T → AfterRows (pattern_of m es) m P T
+rows_all es n m u P T e i after =
+    subst (λ k. AfterRows (pattern_of m es) k P T) i (subst (λ k. AfterRows (pattern_of k es) u P T) e after)
 
 -- all rows are done: the parents are those of the tree, and the tops its roots
 pub rows_tree : (p : Pattern) (vs : List Vertex) (T : ℕ → ℕ) →

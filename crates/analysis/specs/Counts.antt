@@ -1,7 +1,6 @@
 -- Counting: what the tables hold before, while and after the vertices of a pattern are passed by place.
 use Rattle.std.specs.Prelude.{◌≡◌, ℕ, ◌+◌, ◌-◌, ◌<◌, ◌≤◌, true, cond, List, length, ℤ, pos, negsuc, ◌+ℤ◌, ◌-ℤ◌, ◌==◌, slice_set}
 use Rattle.std.specs.Int.{int_wrap, w64}
-use Rattle.pattern.specs.Lists.{upto, sum}
 use Rattle.pattern.specs.Patterns.{Pattern, shares}
 use Rattle.pattern.specs.Elimination.{parent, row_count, col_count}
 use Rattle.pattern.specs.Forest.{children}
@@ -13,19 +12,26 @@ use Rattle.gather.specs.Kinds.{weight}
 use Rattle.sets.specs.Meaning.{Sets, in_use}
 use Rattle.analysis.specs.declared.records.Entry.{Entry}
 use Rattle.analysis.specs.declared.records.Vertex.{Vertex}
-use Rattle.analysis.specs.Tables.{vertex, parent_of, with_weight, with_rows, with_last}
-use Rattle.analysis.specs.Tables.{Only, weight_from, counts_from}
-use Rattle.analysis.specs.Growth.{pattern_of}
+use Rattle.analysis.specs.declared.records.End.TheVariants.{Low}
+use Rattle.analysis.specs.Tables.{vertex, parent_of, with_weight, with_rows, with_last, Only, weight_from}
+use Rattle.analysis.specs.Links.{Listed}
+use Rattle.analysis.specs.Growth.{pattern_in}
 
--- the place of x in its walk
-abbrev pub place_in : ℕ → List Entry → ℕ → ℕ
-place_in n es x = place_of (pattern_of n es) x
+-- the place of x in the walk of the pattern
+abbrev pub place_in : List Vertex → List Entry → ℕ → ℕ
+place_in vs es x = place_of (pattern_in vs es) x
 
 -- the tree of the pattern is in the table: parents, levels, and by its place each vertex
 pub record Ready (p : Pattern) (vs : List Vertex) : Type 0 where
   pub parents : (v : ℕ) → 1 ≤ v → v ≤ p.order → parent_of vs v ≡ parent p v
   pub levels : (v : ℕ) → 1 ≤ v → v ≤ p.order → (vertex vs v).level ≡ level_of p v
   pub walk : (k : ℕ) → 1 ≤ k → k ≤ p.order → (vertex vs k).at ≡ at_place p.order (parent p) k
+
+-- what counting begins with: the entries are linked by their low ends, and the table, not a long one, has the tree
+pub record Prepared (vs : List Vertex) (es : List Entry) : Type 0 where
+  pub few : length vs ≤ 16384
+  pub lists : Listed Low vs es
+  pub tree : Ready (pattern_in vs es) vs
 
 -- each vertex has its row count and its column count
 pub record Counted (p : Pattern) (vs : List Vertex) : Type 0 where
@@ -41,11 +47,6 @@ pub record TopsAt (p : Pattern) (t : ℕ) (s : Sets) : Type 0 where
 pub record TopsAreRoots (p : Pattern) (s : Sets) : Type 0 where
   pub used : s.used ≡ p.order
   pub tops : (x : ℕ) → 1 ≤ x → x ≤ p.order → s.top x ≡ root p.order (parent p) x
-
--- nothing has changed but row counts, weights and neighbours met last, and those of the vertices 1 to n only
-pub record CountsChanged (n : ℕ) (before after : List Vertex) : Type 0 where
-  pub only : Only counts_from before after
-  pub past : (v : ℕ) → n < v → vertex after v ≡ vertex before v
 
 -- two numbers that are the same in 64 bits
 abbrev pub Same64 : ℤ → ℤ → Type 0
@@ -65,6 +66,11 @@ pub record Counting (p : Pattern) (t : ℕ) (vs : List Vertex) : Type 0 where
   pub all : (x u : ℕ) → x < u → shares p x u ≡ true → place_of p x ≤ t → happened x u events ≡ true
   pub tallied : Tallied p events vs
 
+-- the places up to t are passed, in the table and in the sets
+pub record Passed (p : Pattern) (t : ℕ) (vs : List Vertex) (s : Sets) : Type 0 where
+  pub counting : Counting p t vs
+  pub tops : TopsAt p t s
+
 -- a vertex whose row has only itself, with a weight of 1 and no neighbour met
 abbrev pub uncounted : Vertex → Vertex
 uncounted x = with_last (with_weight (with_rows x 1) (weight (pos 1))) 0
@@ -78,12 +84,11 @@ weighed vs v by =
 abbrev pub child_taken : List Vertex → ℕ → List Vertex
 child_taken vs v = cond (parent_of vs v == 0) vs (weighed vs (parent_of vs v) (negsuc 0))
 
--- only weights have changed: that of each of the vertices 1 to n is less by the number of its children among 1 to k
-pub record ChildrenTaken (n k : ℕ) (before after : List Vertex) : Type 0 where
-  pub weights : (v : ℕ) → 1 ≤ v → v ≤ n →
+-- only weights have changed: that of each vertex is less by the number of its children among 1 to k
+pub record ChildrenTaken (k : ℕ) (before after : List Vertex) : Type 0 where
+  pub weights : (v : ℕ) → 1 ≤ v → v ≤ length before →
       Same64 (vertex after v).weight.0 ((vertex before v).weight.0 -ℤ pos (length (children k (parent_of before) v)))
   pub only : Only weight_from before after
-  pub past : (v : ℕ) → n < v → vertex after v ≡ vertex before v
 
 -- the vertices once row u is longer by the levels from q down to x, its last neighbour then
 abbrev pub lengthened : List Vertex → ℕ → ℕ → ℕ → List Vertex
@@ -119,7 +124,3 @@ pub record SameTops (s t : Sets) : Type 0 where
 abbrev pub column_of : ℤ → ℕ
 column_of (pos k) = k
 column_of (negsuc k) = 0
-
--- the sum of the column counts of the first n
-abbrev pub total_of : ℕ → List Vertex → ℕ
-total_of n vs = sum (λ v. column_of (vertex vs v).weight.0) (upto n)

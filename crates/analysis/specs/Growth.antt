@@ -1,5 +1,5 @@
 -- The tree grown with ancestor sets: how the sets begin, what one adoption does, and what the tables hold at the end.
-use Rattle.std.specs.Prelude.{◌≡◌, ℕ, ◌-◌, ◌<◌, ◌≤◌, true, cond, List, ◌==◌, slice_set}
+use Rattle.std.specs.Prelude.{◌≡◌, ℕ, ◌-◌, ◌≤◌, true, cond, List, length, ◌==◌, slice_set}
 use Rattle.pattern.specs.Patterns.{Pattern}
 use Rattle.pattern.specs.Elimination.{parent}
 use Rattle.pattern.specs.Crowns.{AfterRows}
@@ -13,14 +13,18 @@ use Rattle.analysis.specs.Tables.{vertex, parent_of, with_parent, pairs_of}
 abbrev pub pattern_of : ℕ → List Entry → Pattern
 pattern_of n es = record { order = n; entries = pairs_of es }
 
+-- the pattern that the entries make up of the table's vertices
+abbrev pub pattern_in : List Vertex → List Entry → Pattern
+pattern_in vs es = pattern_of (length vs) es
+
 -- each of the vertices 1 to n is its own top, and no others are in use
 pub record Fresh (n : ℕ) (s : Sets) : Type 0 where
   pub used : s.used ≡ n
   pub own : (v : ℕ) → 1 ≤ v → v ≤ n → s.top v ≡ v
 
--- the tree of the entries' pattern as it is once the rows 1 to u are done, in the parents and the tops
-abbrev pub Grown : ℕ → List Entry → ℕ → List Vertex → Sets → Type 0
-Grown n es u vs s = AfterRows (pattern_of n es) u (parent_of vs) s.top
+-- the tree of the pattern as it is once the rows 1 to u are done, in the parents and the tops
+abbrev pub Grown : Pattern → ℕ → List Vertex → Sets → Type 0
+Grown p u vs s = AfterRows p u (parent_of vs) s.top
 
 -- the set of x has gone below u, if it was not there already
 pub record Adopted (s : Sets) (x u : ℕ) (t : Sets) : Type 0 where
@@ -40,7 +44,3 @@ pub record Tree (p : Pattern) (vs : List Vertex) : Type 0 where
 pub record Rooted (p : Pattern) (s : Sets) : Type 0 where
   pub above : (x : ℕ) → 1 ≤ x → x ≤ p.order → in_subtree p x (s.top x) ≡ true
   pub root : (x : ℕ) → 1 ≤ x → x ≤ p.order → parent p (s.top x) ≡ 0
-
--- the records past n are as before
-abbrev pub KeptPast : ℕ → List Vertex → List Vertex → Type 0
-KeptPast n before after = (v : ℕ) → n < v → vertex after v ≡ vertex before v

@@ -1,9 +1,9 @@
 -- Neighbour lists by links: the entries that have v at one end, from the newest to the oldest.
-use Rattle.std.specs.Prelude.{◌≡◌, ℕ, zero, suc, ◌-◌, ◌<◌, ◌≤◌, cond, List, length, ◌==◌, slice_index_or, slice_set}
+use Rattle.std.specs.Prelude.{◌≡◌, ℕ, zero, suc, ◌-◌, ◌<◌, ◌≤◌, cond, List, length, Option, ◌==◌, slice_index_or, MatchOption}
 use Rattle.analysis.specs.declared.records.Entry.{Entry}
 use Rattle.analysis.specs.declared.records.End.{End}
 use Rattle.analysis.specs.declared.records.Vertex.{Vertex}
-use Rattle.analysis.specs.Tables.{vertex, entry, end_of, pairs_of, with_head, with_link}
+use Rattle.analysis.specs.Tables.{vertex, entry, end_of, pairs_of, Sound}
 
 -- the 1-based position of the last of the first k pairs that has v at that end, or 0
 unfoldable pub newest : End → List (ℕ × ℕ) → ℕ → ℕ → ℕ
@@ -20,10 +20,17 @@ pub record Linked (which : End) (n : ℕ) (ps : List (ℕ × ℕ)) (k : ℕ) (vs
 abbrev pub AllLinked : End → ℕ → List Vertex → List Entry → Type 0
 AllLinked which n vs es = Linked which n (pairs_of es) (length es) vs es
 
--- the vertices once the list of v begins at the position h
-abbrev pub headed : List Vertex → ℕ → ℕ → List Vertex
-headed vs v h = slice_set vs (v - 1) (with_head (vertex vs v) h)
+-- sound pairs of the table's vertices, all linked
+pub record Listed (which : End) (vs : List Vertex) (es : List Entry) : Type 0 where
+  pub sound : Sound (length vs) (pairs_of es)
+  pub lists : AllLinked which (length vs) vs es
 
--- the entries once the one at k goes on to the position l
-abbrev pub linked : List Entry → ℕ → ℕ → List Entry
-linked es k l = slice_set es k (with_link (entry es k) l)
+-- each link is to an earlier entry, or to none
+abbrev pub Falling : List Entry → Type 0
+Falling es = (k : ℕ) → k < length es → (entry es k).link ≤ k
+
+-- One step along a list of the entries es, from the position k on to l: nothing at the list's end, or else the entry
+-- there, and on to its link.
+pub record Follows (es : List Entry) (k : ℕ) (r : Option Entry) (fs : List Entry) (l : ℕ) : Type 0 where
+  pub entries : fs ≡ es
+  pub step : MatchOption r ((k ≡ 0) × (l ≡ 0)) (λ e. (1 ≤ k) × (e ≡ entry es (k - 1)) × (l ≡ e.link))

@@ -1,6 +1,6 @@
 -- What the passes over the tree leave in the tables, whatever the parents: levels, sizes, places, the walk by place,
 -- first places and greatest levels.
-use Rattle.std.specs.Prelude.{◌≡◌, ℕ, ◌+◌, ◌-◌, ◌≤◌, cond, List, pos, ◌==◌, slice_set, unsigned_abs}
+use Rattle.std.specs.Prelude.{◌≡◌, ℕ, ◌+◌, ◌-◌, ◌≤◌, cond, List, length, pos, ◌==◌, slice_set, unsigned_abs}
 use Rattle.pattern.specs.Lists.{greatest}
 use Rattle.pattern.specs.Patterns.{Pattern}
 use Rattle.pattern.specs.Elimination.{parent}
@@ -10,9 +10,18 @@ use Rattle.pattern.specs.Analysis.{level_of, place_of, first_place_of, height_of
 use Rattle.analysis.specs.declared.records.Vertex.{Vertex}
 use Rattle.analysis.specs.Tables.{vertex, parent_of, with_place, with_last, with_at}
 
+-- not too many vertices, and each one's parent a greater vertex, or 0
+pub record Forest (vs : List Vertex) : Type 0 where
+  pub few : length vs ≤ 16384
+  pub grows : forest.Grows (length vs) (parent_of vs)
+
+-- one more than the level that w has, or 0 if w is none
+abbrev pub level_under : List Vertex → ℕ → ℕ
+level_under vs w = cond (w == 0) 0 ((vertex vs w).level + 1)
+
 -- one more than the level that the parent of v has, or 0 at a root
 abbrev pub level_below : List Vertex → ℕ → ℕ
-level_below vs v = cond (parent_of vs v == 0) 0 ((vertex vs (parent_of vs v)).level + 1)
+level_below vs v = level_under vs (parent_of vs v)
 
 -- the number of vertices in the subtree, while the weight holds it
 abbrev pub size_in : Vertex → ℕ

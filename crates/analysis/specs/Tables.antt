@@ -1,6 +1,6 @@
 -- How the tables of an analysis are read, a vertex by its number from 1 and an entry by its position from 0, and how
--- they change: one field of one record, or all of the first n records.
-use Rattle.std.specs.Prelude.{◌≡◌, ℕ, ◌-◌, ◌<◌, ◌≤◌, List, ◌++◌, map, length, take, drop, pos, slice_index_or}
+-- they change: one field of one record, or that field of any.
+use Rattle.std.specs.Prelude.{◌≡◌, ℕ, ◌-◌, ◌<◌, ◌≤◌, List, map, length, pos, slice_index_or}
 use Rattle.gather.specs.declared.kinds.Weight.{Weight}
 use Rattle.gather.specs.declared.kinds.LeastPlace.{LeastPlace}
 use Rattle.gather.specs.declared.kinds.GreatestLevel.{GreatestLevel}
@@ -61,170 +61,42 @@ abbrev pub end_of : End → (ℕ × ℕ) → ℕ
 end_of Low e = e.0
 end_of High e = e.1
 
--- each of the first n of xs changed by f, the others as they are
-unfoldable pub first_by : {X : Type 0} → ℕ → (X → X) → List X → List X
-first_by n f xs = map f (take n xs) ++ drop n xs
-
 abbrev pub with_link : Entry → ℕ → Entry
-with_link e l = record { low = e.low; high = e.high; link = l }
+with_link e l = record e { link = l }
 
 abbrev pub with_parent : Vertex → ℕ → Vertex
-with_parent x y =
-    record {
-      parent = y;
-      level = x.level;
-      place = x.place;
-      first = x.first;
-      deepest = x.deepest;
-      rows = x.rows;
-      weight = x.weight;
-      head = x.head;
-      last = x.last;
-      at = x.at;
-    }
+with_parent x y = record x { parent = y }
 
 abbrev pub with_level : Vertex → ℕ → Vertex
-with_level x y =
-    record {
-      parent = x.parent;
-      level = y;
-      place = x.place;
-      first = x.first;
-      deepest = x.deepest;
-      rows = x.rows;
-      weight = x.weight;
-      head = x.head;
-      last = x.last;
-      at = x.at;
-    }
+with_level x y = record x { level = y }
 
 abbrev pub with_place : Vertex → ℕ → Vertex
-with_place x y =
-    record {
-      parent = x.parent;
-      level = x.level;
-      place = y;
-      first = x.first;
-      deepest = x.deepest;
-      rows = x.rows;
-      weight = x.weight;
-      head = x.head;
-      last = x.last;
-      at = x.at;
-    }
+with_place x y = record x { place = y }
 
 abbrev pub with_first : Vertex → LeastPlace → Vertex
-with_first x y =
-    record {
-      parent = x.parent;
-      level = x.level;
-      place = x.place;
-      first = y;
-      deepest = x.deepest;
-      rows = x.rows;
-      weight = x.weight;
-      head = x.head;
-      last = x.last;
-      at = x.at;
-    }
+with_first x y = record x { first = y }
 
 abbrev pub with_deepest : Vertex → GreatestLevel → Vertex
-with_deepest x y =
-    record {
-      parent = x.parent;
-      level = x.level;
-      place = x.place;
-      first = x.first;
-      deepest = y;
-      rows = x.rows;
-      weight = x.weight;
-      head = x.head;
-      last = x.last;
-      at = x.at;
-    }
+with_deepest x y = record x { deepest = y }
 
 abbrev pub with_rows : Vertex → ℕ → Vertex
-with_rows x y =
-    record {
-      parent = x.parent;
-      level = x.level;
-      place = x.place;
-      first = x.first;
-      deepest = x.deepest;
-      rows = y;
-      weight = x.weight;
-      head = x.head;
-      last = x.last;
-      at = x.at;
-    }
+with_rows x y = record x { rows = y }
 
 abbrev pub with_weight : Vertex → Weight → Vertex
-with_weight x y =
-    record {
-      parent = x.parent;
-      level = x.level;
-      place = x.place;
-      first = x.first;
-      deepest = x.deepest;
-      rows = x.rows;
-      weight = y;
-      head = x.head;
-      last = x.last;
-      at = x.at;
-    }
+with_weight x y = record x { weight = y }
 
 abbrev pub with_head : Vertex → ℕ → Vertex
-with_head x y =
-    record {
-      parent = x.parent;
-      level = x.level;
-      place = x.place;
-      first = x.first;
-      deepest = x.deepest;
-      rows = x.rows;
-      weight = x.weight;
-      head = y;
-      last = x.last;
-      at = x.at;
-    }
+with_head x y = record x { head = y }
 
 abbrev pub with_last : Vertex → ℕ → Vertex
-with_last x y =
-    record {
-      parent = x.parent;
-      level = x.level;
-      place = x.place;
-      first = x.first;
-      deepest = x.deepest;
-      rows = x.rows;
-      weight = x.weight;
-      head = x.head;
-      last = y;
-      at = x.at;
-    }
+with_last x y = record x { last = y }
 
 abbrev pub with_at : Vertex → ℕ → Vertex
-with_at x y =
-    record {
-      parent = x.parent;
-      level = x.level;
-      place = x.place;
-      first = x.first;
-      deepest = x.deepest;
-      rows = x.rows;
-      weight = x.weight;
-      head = x.head;
-      last = x.last;
-      at = y;
-    }
+with_at x y = record x { at = y }
 
 -- Nothing but what `mix` takes over from the second record has changed.
 abbrev pub Only : (Vertex → Vertex → Vertex) → List Vertex → List Vertex → Type 0
 Only mix before after = (v : ℕ) → vertex after v ≡ mix (vertex before v) (vertex after v)
-
--- the records past n are as they were
-abbrev pub SamePast : ℕ → List Vertex → List Vertex → Type 0
-SamePast n before after = (v : ℕ) → n < v → vertex after v ≡ vertex before v
 
 -- x, with the head of y, and so on
 abbrev pub head_from : Vertex → Vertex → Vertex

@@ -1,25 +1,28 @@
 // What is gathered up the tree: the vertex record as a node that holds a weight, a least place or a greatest level.
+// The three differ in the field alone, which only a macro could pass on, and no impl is written by a macro here.
 ghost use Rattle.analysis.specs.Tables.{no_vertex, with_weight, with_first, with_deepest};
 ghost use Rattle.std.proofs.Common.{rules};
 
 use crate::records::Vertex;
-use gather::joining::Node;
+use gather::joining::{Child, Node};
 use gather::kinds::{GreatestLevel, LeastPlace, Weight};
 
-impl Node<Weight> for Vertex {
+impl Child for Vertex {
     ghost blank = { no_vertex };
 
     ghost above = { λ x. x.parent };
 
+    fn parent(&self) -> u32 {
+        self.parent
+    }
+}
+
+impl Node<Weight> for Vertex {
     ghost held = { λ x. x.weight };
 
     ghost holding = { with_weight };
 
     ghost laws = { Prim.search rules };
-
-    fn parent(&self) -> u32 {
-        self.parent
-    }
 
     fn value(&self) -> Weight {
         Weight(self.weight.0)
@@ -31,22 +34,14 @@ impl Node<Weight> for Vertex {
 }
 
 impl Node<LeastPlace> for Vertex {
-    ghost blank = { no_vertex };
-
-    ghost above = { λ x. x.parent };
-
     ghost held = { λ x. x.first };
 
     ghost holding = { with_first };
 
     ghost laws = { Prim.search rules };
 
-    fn parent(&self) -> u32 {
-        self.parent
-    }
-
     fn value(&self) -> LeastPlace {
-        LeastPlace::new(self.first.0)
+        LeastPlace::from(self.first.0)
     }
 
     fn set_value(&mut self, value: LeastPlace) {
@@ -55,22 +50,14 @@ impl Node<LeastPlace> for Vertex {
 }
 
 impl Node<GreatestLevel> for Vertex {
-    ghost blank = { no_vertex };
-
-    ghost above = { λ x. x.parent };
-
     ghost held = { λ x. x.deepest };
 
     ghost holding = { with_deepest };
 
     ghost laws = { Prim.search rules };
 
-    fn parent(&self) -> u32 {
-        self.parent
-    }
-
     fn value(&self) -> GreatestLevel {
-        GreatestLevel::new(self.deepest.0)
+        GreatestLevel::from(self.deepest.0)
     }
 
     fn set_value(&mut self, value: GreatestLevel) {

@@ -1,99 +1,73 @@
 // From the parents to levels, sizes of subtrees, places, the walk by place, and what the subtrees reach.
-ghost use Rattle.std.specs.Prelude.{◌≡◌, ◌-◌, ◌<◌, ◌≤◌, length, pos, slice_set};
+ghost use Rattle.std.specs.Prelude.{◌≡◌, ◌-◌, ◌<◌, ◌≤◌, length, pos};
 ghost use Rattle.pattern.specs.Patterns.{Pattern};
-ghost use Rattle.pattern.specs.Forest.{Grows};
-ghost use Rattle.gather.specs.Kinds.{weight, least_place, greatest_level};
-ghost use Rattle.analysis.specs.Tables.{vertex, parent_of, first_by, Only, SamePast};
+ghost use Rattle.analysis.specs.Tables.{vertex, parent_of, with_place, with_last, Only};
 ghost use Rattle.analysis.specs.Tables.{level_from, weight_from, place_from, at_from, first_from, deepest_from, order_from};
-ghost use Rattle.analysis.specs.Tables.{with_level, with_weight, with_first, with_deepest};
-ghost use Rattle.analysis.specs.Order.{level_below, size_in, next_place, placed_at, taken, free_after, noted};
+ghost use Rattle.analysis.specs.Order.{Forest, level_under, size_in, next_place, taken, free_after, noted};
 ghost use Rattle.analysis.specs.Order.{Levelled, Sized, Placed, Walked, FirstPlaced, Sounded};
 ghost use Rattle.analysis.specs.Order.{Ordered, ParentsOf, OrderedAs};
 
 use crate::records::Vertex;
-use gather::gathering::gather;
+use gather::gathering::gather_from;
 use gather::kinds::{GreatestLevel, LeastPlace, Weight};
 
-// One level below the parent, which has its level already; 0 at a root.
-fn settle_level(v: u32, vertices: &mut [Vertex])
-    requires from { 1 ≤ v }
-    requires to { v ≤ length vertices.old }
-    requires parent { parent_of vertices.old v ≤ length vertices.old }
-    requires small { 1 ≤ parent_of vertices.old v → (vertex vertices.old (parent_of vertices.old v)).level < 16384 }
-    ensures { vertices.new ≡ slice_set vertices.old (v - 1) (with_level (vertex vertices.old v) (level_below vertices.old v)) }
+// One more than the level of the parent, which has its level already; 0 if there is none.
+fn level_below(parent: u32, vertices: &[Vertex]) -> u32
+    requires within { parent ≤ length vertices.now }
+    requires small { 1 ≤ parent → (vertex vertices.now parent).level < 16384 }
+    ensures { result ≡ level_under vertices.now parent }
 {
-    let parent = vertices[v as usize - 1].parent;
-    vertices[v as usize - 1].level = if parent == 0 {
+    if parent == 0 {
         0
     } else {
         vertices[parent as usize - 1].level + 1
-    };
-}
-
-// The levels, from the parents down.
-fn levels(n: u32, vertices: &mut [Vertex])
-    requires within { n ≤ length vertices.old }
-    requires few { n ≤ 16384 }
-    requires grows { Grows n (parent_of vertices.old) }
-    ensures levels { Levelled n vertices.new }
-    ensures only { Only level_from vertices.old vertices.new }
-    ensures past { SamePast n vertices.old vertices.new }
-{
-    for v in (1..n + 1).rev() {
-        settle_level(v, vertices);
     }
 }
 
-// A weight of 1 for each of the vertices 1 to n, so that the weights gathered are the sizes of the subtrees.
-fn begin_sizes(n: u32, vertices: &mut [Vertex])
-    requires within { n ≤ length vertices.old }
-    ensures { vertices.new ≡ first_by n (λ x. with_weight x (weight (pos 1))) vertices.old }
+// The levels, from the parents down.
+fn levels(vertices: &mut [Vertex])
+    requires { Forest vertices.old }
+    ensures levels { Levelled (length vertices.new) vertices.new }
+    ensures only { Only level_from vertices.old vertices.new }
 {
-    for i in 0..n as usize {
-        vertices[i].weight = Weight(1);
+    // By number, as each step reads another record.
+    for v in (1..=vertices.len()).rev() {
+        vertices[v - 1].level = level_below(vertices[v - 1].parent, vertices);
     }
 }
 
 // The sizes of the subtrees, held by the weights.
-fn sizes(n: u32, vertices: &mut [Vertex])
-    requires within { n ≤ length vertices.old }
-    requires few { n ≤ 16384 }
-    requires grows { Grows n (parent_of vertices.old) }
-    ensures sizes { Sized n vertices.new }
+fn sizes(vertices: &mut [Vertex])
+    requires { Forest vertices.old }
+    ensures sizes { Sized (length vertices.new) vertices.new }
     ensures only { Only weight_from vertices.old vertices.new }
-    ensures past { SamePast n vertices.old vertices.new }
 {
-    begin_sizes(n, vertices);
-    gather::<Weight, Vertex>(vertices, n);
+    gather_from(vertices, |_| Weight(1));
 }
 
-// The number of vertices in the subtree, once the sizes are gathered.
-fn size_of(vertex: Vertex) -> u32
-    requires counts { vertex.weight.0 ≡ pos (size_in vertex) }
-    requires few { size_in vertex ≤ 16384 }
-    ensures { result ≡ size_in vertex }
-{
-    vertex.weight.0 as u32
-}
+impl Vertex {
+    // The number of vertices in the subtree, once the sizes are gathered.
+    fn size(&self) -> u32
+        requires counts { self.now.weight.0 ≡ pos (size_in self.now) }
+        requires few { size_in self.now ≤ 16384 }
+        ensures { result ≡ size_in self.now }
+    {
+        self.weight.0 as u32
+    }
 
-// Gives v its place, and the one before to the next of its children.
-fn set_place(v: u32, place: u32, vertices: &mut [Vertex])
-    requires from { 1 ≤ v }
-    requires to { v ≤ length vertices.old }
-    requires some { 1 ≤ place }
-    ensures { vertices.new ≡ placed_at vertices.old v place }
-{
-    let vertex = vertices[v as usize - 1];
-    vertices[v as usize - 1] = Vertex {
-        place,
-        last: place - 1,
-        ..vertex
-    };
+    // Gives the vertex its place, and the one before to the next of its children.
+    fn set_place(&mut self, place: u32)
+        requires { 1 ≤ place }
+        ensures { self.new ≡ with_last (with_place self.old place) (place - 1) }
+    {
+        self.place = place;
+        self.last = place - 1;
+    }
 }
 
 // Gives v the last place that is free below its parent, with those before it to the subtree of v, and answers the last
 // that is then free for a root.
-fn take_place(v: u32, free: u32, vertices: &mut [Vertex]) -> u32
+fn take_place(v: usize, free: u32, vertices: &mut [Vertex]) -> u32
     requires from { 1 ≤ v }
     requires to { v ≤ length vertices.old }
     requires parent { parent_of vertices.old v ≤ length vertices.old }
@@ -104,123 +78,90 @@ fn take_place(v: u32, free: u32, vertices: &mut [Vertex]) -> u32
     ensures table { vertices.new ≡ taken vertices.old free v }
     ensures free { result ≡ free_after vertices.old free v }
 {
-    let vertex = vertices[v as usize - 1];
-    let parent = vertex.parent;
+    let size = vertices[v - 1].size();
+    let parent = vertices[v - 1].parent as usize;
     if parent == 0 {
-        set_place(v, free, vertices);
-        return free - size_of(vertex);
+        vertices[v - 1].set_place(free);
+        return free - size;
     }
-    let place = vertices[parent as usize - 1].last;
-    set_place(v, place, vertices);
-    vertices[parent as usize - 1].last = place - size_of(vertex);
+    let place = vertices[parent - 1].last;
+    vertices[v - 1].set_place(place);
+    vertices[parent - 1].last = place - size;
     free
 }
 
 // The places from the last to the first: a vertex stands after all below it, and siblings in the order of their
 // numbers.
-fn places(n: u32, vertices: &mut [Vertex])
-    requires within { n ≤ length vertices.old }
-    requires few { n ≤ 16384 }
-    requires grows { Grows n (parent_of vertices.old) }
-    requires sizes { Sized n vertices.old }
-    ensures places { Placed n vertices.new }
+fn places(vertices: &mut [Vertex])
+    requires forest { Forest vertices.old }
+    requires sizes { Sized (length vertices.old) vertices.old }
+    ensures places { Placed (length vertices.new) vertices.new }
     ensures only { Only place_from vertices.old vertices.new }
-    ensures past { SamePast n vertices.old vertices.new }
 {
-    let mut free = n;
-    for v in (1..n + 1).rev() {
+    let mut free = vertices.len() as u32;
+    // By number, as each step writes another record too.
+    for v in (1..=vertices.len()).rev() {
         free = take_place(v, free, vertices);
     }
 }
 
 // Notes v at its place.
-fn note_place(v: u32, vertices: &mut [Vertex])
+fn note_place(v: usize, vertices: &mut [Vertex])
     requires from { 1 ≤ v }
     requires to { v ≤ length vertices.old }
+    requires few { v ≤ 16384 }
     requires some { 1 ≤ (vertex vertices.old v).place }
     requires within { (vertex vertices.old v).place ≤ length vertices.old }
     ensures { vertices.new ≡ noted vertices.old v }
 {
-    let place = vertices[v as usize - 1].place;
-    vertices[place as usize - 1].at = v;
+    let place = vertices[v - 1].place as usize;
+    vertices[place - 1].at = v as u32;
 }
 
 // The vertex at each place.
-fn walk_order(n: u32, vertices: &mut [Vertex])
-    requires within { n ≤ length vertices.old }
-    requires few { n ≤ 16384 }
-    requires grows { Grows n (parent_of vertices.old) }
-    requires places { Placed n vertices.old }
-    ensures walk { Walked n vertices.new }
+fn walk_order(vertices: &mut [Vertex])
+    requires forest { Forest vertices.old }
+    requires places { Placed (length vertices.old) vertices.old }
+    ensures walk { Walked (length vertices.new) vertices.new }
     ensures only { Only at_from vertices.old vertices.new }
-    ensures past { SamePast n vertices.old vertices.new }
 {
-    for v in 1..n + 1 {
+    // By number, as each step writes another record.
+    for v in 1..=vertices.len() {
         note_place(v, vertices);
     }
 }
 
-// Each vertex's own place, to be gathered.
-fn begin_firsts(n: u32, vertices: &mut [Vertex])
-    requires { n ≤ length vertices.old }
-    ensures { vertices.new ≡ first_by n (λ x. with_first x (least_place x.place)) vertices.old }
-{
-    for i in 0..n as usize {
-        vertices[i].first = LeastPlace(vertices[i].place);
-    }
-}
-
 // The least place in each subtree.
-fn first_places(n: u32, vertices: &mut [Vertex])
-    requires within { n ≤ length vertices.old }
-    requires grows { Grows n (parent_of vertices.old) }
-    requires few { n ≤ 16384 }
-    requires places { Placed n vertices.old }
-    ensures firsts { FirstPlaced n vertices.new }
+fn first_places(vertices: &mut [Vertex])
+    requires forest { Forest vertices.old }
+    requires places { Placed (length vertices.old) vertices.old }
+    ensures firsts { FirstPlaced (length vertices.new) vertices.new }
     ensures only { Only first_from vertices.old vertices.new }
-    ensures past { SamePast n vertices.old vertices.new }
 {
-    begin_firsts(n, vertices);
-    gather::<LeastPlace, Vertex>(vertices, n);
-}
-
-// Each vertex's own level, to be gathered.
-fn begin_depths(n: u32, vertices: &mut [Vertex])
-    requires { n ≤ length vertices.old }
-    ensures { vertices.new ≡ first_by n (λ x. with_deepest x (greatest_level x.level)) vertices.old }
-{
-    for i in 0..n as usize {
-        vertices[i].deepest = GreatestLevel(vertices[i].level);
-    }
+    gather_from(vertices, |vertex| LeastPlace::from(vertex.place));
 }
 
 // The greatest level in each subtree.
-fn depths(n: u32, vertices: &mut [Vertex])
-    requires within { n ≤ length vertices.old }
-    requires grows { Grows n (parent_of vertices.old) }
-    requires levels { Levelled n vertices.old }
-    ensures depths { Sounded n vertices.new }
+fn depths(vertices: &mut [Vertex])
+    requires forest { Forest vertices.old }
+    requires levels { Levelled (length vertices.old) vertices.old }
+    ensures depths { Sounded (length vertices.new) vertices.new }
     ensures only { Only deepest_from vertices.old vertices.new }
-    ensures past { SamePast n vertices.old vertices.new }
 {
-    begin_depths(n, vertices);
-    gather::<GreatestLevel, Vertex>(vertices, n);
+    gather_from(vertices, |vertex| GreatestLevel::from(vertex.level));
 }
 
 // All that the tree alone gives: levels, places, the walk by place, first places and greatest levels.
-pub fn order(n: u32, vertices: &mut [Vertex])
-    requires within { n ≤ length vertices.old }
-    requires few { n ≤ 16384 }
-    requires grows { Grows n (parent_of vertices.old) }
-    ensures ordered { Ordered n (parent_of vertices.old) vertices.new }
-    ensures answers { (p : Pattern) → ParentsOf p n vertices.old → OrderedAs p vertices.new }
+pub fn order(vertices: &mut [Vertex])
+    requires { Forest vertices.old }
+    ensures ordered { Ordered (length vertices.old) (parent_of vertices.old) vertices.new }
+    ensures answers { (p : Pattern) → ParentsOf p (length vertices.old) vertices.old → OrderedAs p vertices.new }
     ensures only { Only order_from vertices.old vertices.new }
-    ensures past { SamePast n vertices.old vertices.new }
 {
-    levels(n, vertices);
-    sizes(n, vertices);
-    places(n, vertices);
-    walk_order(n, vertices);
-    first_places(n, vertices);
-    depths(n, vertices);
+    levels(vertices);
+    sizes(vertices);
+    places(vertices);
+    walk_order(vertices);
+    first_places(vertices);
+    depths(vertices);
 }

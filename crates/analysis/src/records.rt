@@ -1,4 +1,5 @@
 // The records of the two tables that an analysis works on: one for each vertex and one for each entry of the pattern.
+// Numbers count from 1 and 0 is none, as in the theorems' trees; an `Option` would widen the fixed tables.
 ghost use Rattle.std.specs.Prelude.{◌≡◌};
 ghost use Rattle.analysis.specs.Tables.{no_entry, no_vertex};
 
@@ -6,7 +7,7 @@ use gather::kinds::{GreatestLevel, LeastPlace, Weight};
 
 // An entry of the pattern, low < high. The link is working storage: the 1-based position of the next entry of a
 // neighbour list, always an earlier one, or 0 at the list's end.
-#[derive(Clone, Copy)]
+#[derive(Clone, Copy, Default)]
 pub struct Entry {
     pub low: u32,
     pub high: u32,
@@ -21,7 +22,7 @@ pub enum End {
 }
 
 // What an analysis finds of one vertex, with its working storage.
-#[derive(Clone, Copy)]
+#[derive(Clone, Copy, Default)]
 pub struct Vertex {
     // The parent in the elimination tree, 0 at a root, and the number of parent steps to the root.
     pub parent: u32,
@@ -48,11 +49,7 @@ impl Entry {
     pub fn new() -> Entry
         ensures { result ≡ no_entry }
     {
-        Entry {
-            low: 0,
-            high: 0,
-            link: 0,
-        }
+        Entry::default()
     }
 }
 
@@ -61,17 +58,6 @@ impl Vertex {
     pub fn new() -> Vertex
         ensures { result ≡ no_vertex }
     {
-        Vertex {
-            parent: 0,
-            level: 0,
-            place: 0,
-            first: LeastPlace(0),
-            deepest: GreatestLevel(0),
-            rows: 0,
-            weight: Weight(0),
-            head: 0,
-            last: 0,
-            at: 0,
-        }
+        Vertex::default()
     }
 }

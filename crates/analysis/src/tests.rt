@@ -1,27 +1,18 @@
 // The worked frames, with values worked out by hand.
 use crate::analyse;
 use crate::records::{Entry, Vertex};
-use sets::WrittenTops;
+use sets::{NoRoom, WrittenTops};
 use std::process::Abort;
-use std::test::Fail;
 
-fn check_vertex(
-    rt: &impl Abort,
-    vertex: Vertex,
-    parent: u32,
-    place: u32,
-    rows: u32,
-    columns: i64,
-) -> Result<(), Fail> {
+fn check_vertex(rt: &impl Abort, vertex: Vertex, parent: u32, place: u32, rows: u32, columns: i64) {
     assert_eq!(rt; vertex.parent, parent);
     assert_eq!(rt; vertex.place, place);
     assert_eq!(rt; vertex.rows, rows);
     assert_eq!(rt; vertex.weight.0, columns);
-    Ok(())
 }
 
 #[test]
-fn bay(rt: HostRuntime) -> Result<(), Fail> {
+fn bay(rt: HostRuntime) {
     let mut numbers = [0u32; 6];
     let mut sets = WrittenTops::new(&mut numbers);
     let mut vertices = [Vertex::new(); 6];
@@ -52,27 +43,23 @@ fn bay(rt: HostRuntime) -> Result<(), Fail> {
             link: 0,
         },
     ];
-    assert_eq!(rt;
-        analyse(6, &mut vertices, &mut entries, &mut sets),
-        Some(13)
-    );
-    check_vertex(&rt, vertices[0], 4, 1, 1, 2)?;
-    check_vertex(&rt, vertices[1], 3, 3, 1, 3)?;
-    check_vertex(&rt, vertices[2], 5, 4, 2, 3)?;
-    check_vertex(&rt, vertices[3], 6, 2, 2, 2)?;
-    check_vertex(&rt, vertices[4], 6, 5, 3, 2)?;
-    check_vertex(&rt, vertices[5], 0, 6, 4, 1)?;
+    assert_eq!(rt; analyse(6, &mut vertices, &mut entries, &mut sets), Ok(13));
+    check_vertex(&rt, vertices[0], 4, 1, 1, 2);
+    check_vertex(&rt, vertices[1], 3, 3, 1, 3);
+    check_vertex(&rt, vertices[2], 5, 4, 2, 3);
+    check_vertex(&rt, vertices[3], 6, 2, 2, 2);
+    check_vertex(&rt, vertices[4], 6, 5, 3, 2);
+    check_vertex(&rt, vertices[5], 0, 6, 4, 1);
     assert_eq!(rt; vertices[4].first.0, 3, "the first place below 5");
     assert_eq!(rt;
         (vertices[5].deepest.0, vertices[5].level),
         (3, 0),
         "the height of 6 is 3"
     );
-    Ok(())
 }
 
 #[test]
-fn several_trees(rt: HostRuntime) -> Result<(), Fail> {
+fn several_trees(rt: HostRuntime) {
     let mut numbers = [0u32; 5];
     let mut sets = WrittenTops::new(&mut numbers);
     let mut vertices = [Vertex::new(); 5];
@@ -88,16 +75,16 @@ fn several_trees(rt: HostRuntime) -> Result<(), Fail> {
             link: 0,
         },
     ];
-    assert_eq!(rt; analyse(5, &mut vertices, &mut entries, &mut sets), Some(7));
-    check_vertex(&rt, vertices[0], 5, 4, 1, 2)?;
-    check_vertex(&rt, vertices[1], 4, 2, 1, 2)?;
-    check_vertex(&rt, vertices[2], 0, 1, 1, 1)?;
-    check_vertex(&rt, vertices[3], 0, 3, 2, 1)?;
-    check_vertex(&rt, vertices[4], 0, 5, 2, 1)
+    assert_eq!(rt; analyse(5, &mut vertices, &mut entries, &mut sets), Ok(7));
+    check_vertex(&rt, vertices[0], 5, 4, 1, 2);
+    check_vertex(&rt, vertices[1], 4, 2, 1, 2);
+    check_vertex(&rt, vertices[2], 0, 1, 1, 1);
+    check_vertex(&rt, vertices[3], 0, 3, 2, 1);
+    check_vertex(&rt, vertices[4], 0, 5, 2, 1);
 }
 
 #[test]
-fn too_few_sets(rt: HostRuntime) -> Result<(), Fail> {
+fn too_few_sets(rt: HostRuntime) {
     let mut numbers = [0u32; 1];
     let mut sets = WrittenTops::new(&mut numbers);
     let mut vertices = [Vertex::new(); 2];
@@ -106,7 +93,9 @@ fn too_few_sets(rt: HostRuntime) -> Result<(), Fail> {
         high: 2,
         link: 7,
     }];
-    assert_eq!(rt; analyse(2, &mut vertices, &mut entries, &mut sets), None);
+    assert_eq!(rt;
+        analyse(2, &mut vertices, &mut entries, &mut sets),
+        Err(NoRoom)
+    );
     assert_eq!(rt; entries[0].link, 7);
-    Ok(())
 }

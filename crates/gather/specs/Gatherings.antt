@@ -36,3 +36,20 @@ pub record Gathered {J N : Type 0} (neutral : J) (join : J → J → J) (blank :
       holding (record_of blank before v)
       (joined_over neutral join (field_of blank held before) (subtree n (field_of blank above before) v))
   pub others : (v : ℕ) → n < v → record_of blank after v ≡ record_of blank before v
+
+-- Each of the first n records has just its value set, to one that `gives` allows for the record as it was.
+pub record Begun {J N : Type 0} (gives : N → J → Type 0) (blank : N) (held : N → J) (holding : N → J → N) (n : ℕ)
+    (before after : List N) : Type 0 where
+  pub only : (v : ℕ) → 1 ≤ v → v ≤ n →
+      record_of blank after v ≡ holding (record_of blank before v) (held (record_of blank after v))
+  pub given : (v : ℕ) → 1 ≤ v → v ≤ n → gives (record_of blank before v) (held (record_of blank after v))
+
+-- After a gathering that begins so: each record is the one before with just its value set, to the joining over its
+-- subtree of the values that were given.
+pub record GatheredFrom {J N : Type 0} (gives : N → J → Type 0) (neutral : J) (join : J → J → J) (blank : N)
+    (above : N → ℕ) (holding : N → J → N) (n : ℕ) (before after : List N) : Type 0 where
+  pub first : ℕ → J
+  pub given : (v : ℕ) → 1 ≤ v → v ≤ n → gives (record_of blank before v) (first v)
+  pub vertices : (v : ℕ) → 1 ≤ v → v ≤ n →
+      record_of blank after v ≡
+      holding (record_of blank before v) (joined_over neutral join first (subtree n (field_of blank above before) v))

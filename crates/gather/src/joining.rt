@@ -22,21 +22,24 @@ pub trait Joining: Sized {
     ghost laws: { JoiningLaws nothing joined fits };
 }
 
-// A vertex's record: its parent, and in one of its fields a value of the kind J.
-pub trait Node<J: Joining> {
+// A vertex's record that says who its parent is.
+pub trait Child: Sized {
     // What is read where a table has no record.
     ghost blank: { Self };
 
     // The parent, 0 at a root.
     ghost above: { Self → ℕ };
 
+    fn parent(&self) -> u32
+        ensures { result ≡ above self.now };
+}
+
+// Such a record with a value of the kind J in one of its fields.
+pub trait Node<J: Joining>: Child {
     ghost held: { Self → J };
 
     // The record with its value set, and nothing else changed.
     ghost holding: { Self → J → Self };
-
-    fn parent(&self) -> u32
-        ensures { result ≡ above self.now };
 
     fn value(&self) -> J
         ensures is { result ≡ held self.now }
@@ -45,5 +48,5 @@ pub trait Node<J: Joining> {
     fn set_value(&mut self, value: J)
         ensures { self.new ≡ holding self.old value };
 
-    ghost laws: { NodeLaws above held holding };
+    ghost laws: { NodeLaws Self.above held holding };
 }

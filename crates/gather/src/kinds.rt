@@ -11,7 +11,7 @@ ghost use Rattle.std.proofs.lemmas.Int.{ints, int_wrap-add_left, int_wrap-add_ri
 use crate::joining::Joining;
 
 // A share of a sum that wraps.
-#[derive(Clone, Copy)]
+#[derive(Clone, Copy, Default)]
 pub struct Weight(pub i64);
 
 impl Joining for Weight {
@@ -41,16 +41,16 @@ impl Joining for Weight {
     }
 }
 
-// A place, of which the least is sought.
-#[derive(Clone, Copy)]
+// A place, of which the least is sought. One type for this and the next would be no plainer: min or max, and what is
+// neutral to it, are all that they are.
+#[derive(Clone, Copy, Default)]
 pub struct LeastPlace(pub u32);
 
-impl LeastPlace {
+impl From<u32> for LeastPlace {
     // A clause's number has no bound: that the place fits is said here, for the records that hold one.
-    pub fn new(place: u32) -> LeastPlace
-        ensures is { result ≡ least_place place }
-        ensures fitting { Fits w32 place }
-    {
+    ghost from_gives = { λ place given. (given ≡ least_place place) × Fits w32 place };
+
+    fn from(place: u32) -> LeastPlace {
         LeastPlace(place)
     }
 }
@@ -74,15 +74,14 @@ impl Joining for LeastPlace {
 }
 
 // A level, of which the greatest is sought.
-#[derive(Clone, Copy)]
+#[derive(Clone, Copy, Default)]
 pub struct GreatestLevel(pub u32);
 
-impl GreatestLevel {
+impl From<u32> for GreatestLevel {
     // As for a place, that the level fits is said here.
-    pub fn new(level: u32) -> GreatestLevel
-        ensures is { result ≡ greatest_level level }
-        ensures fitting { Fits w32 level }
-    {
+    ghost from_gives = { λ level given. (given ≡ greatest_level level) × Fits w32 level };
+
+    fn from(level: u32) -> GreatestLevel {
         GreatestLevel(level)
     }
 }

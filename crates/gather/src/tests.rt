@@ -1,11 +1,12 @@
 // The gathering over small forests, with values worked out by hand.
-ghost use Rattle.std.specs.Prelude.{◌≡◌, ◌-◌, get_or, pos};
+ghost use Rattle.std.specs.Prelude.{◌≡◌, pos};
 ghost use Rattle.pattern.specs.Forest.{Grows};
+ghost use Rattle.gather.specs.Gatherings.{field_of};
 ghost use Rattle.gather.specs.Kinds.{weight, least_place, greatest_level};
 ghost use Rattle.std.proofs.Common.{rules};
 
-use crate::gathering::gather;
-use crate::joining::Node;
+use crate::gathering::{gather, gather_from};
+use crate::joining::{Child, Node};
 use crate::kinds::*;
 
 #[derive(Clone, Copy)]
@@ -16,21 +17,22 @@ struct Vertex {
     level: u32,
 }
 
-impl Node<Weight> for Vertex {
+impl Child for Vertex {
     ghost blank = { record { parent = 0; weight = pos 0; place = 0; level = 0 } };
 
     ghost above = { λ x. x.parent };
 
-    ghost held = { λ x. weight x.weight };
-
-    ghost holding = { λ x value.
-        record { parent = x.parent; weight = value.0; place = x.place; level = x.level } };
-
-    ghost laws = { Prim.search rules };
-
     fn parent(&self) -> u32 {
         self.parent
     }
+}
+
+impl Node<Weight> for Vertex {
+    ghost held = { λ x. weight x.weight };
+
+    ghost holding = { λ x value. record x { weight = value.0 } };
+
+    ghost laws = { Prim.search rules };
 
     fn value(&self) -> Weight {
         Weight(self.weight)
@@ -42,23 +44,14 @@ impl Node<Weight> for Vertex {
 }
 
 impl Node<LeastPlace> for Vertex {
-    ghost blank = { record { parent = 0; weight = pos 0; place = 0; level = 0 } };
-
-    ghost above = { λ x. x.parent };
-
     ghost held = { λ x. least_place x.place };
 
-    ghost holding = { λ x value.
-        record { parent = x.parent; weight = x.weight; place = value.0; level = x.level } };
+    ghost holding = { λ x value. record x { place = value.0 } };
 
     ghost laws = { Prim.search rules };
 
-    fn parent(&self) -> u32 {
-        self.parent
-    }
-
     fn value(&self) -> LeastPlace {
-        LeastPlace::new(self.place)
+        LeastPlace::from(self.place)
     }
 
     fn set_value(&mut self, value: LeastPlace) {
@@ -67,23 +60,14 @@ impl Node<LeastPlace> for Vertex {
 }
 
 impl Node<GreatestLevel> for Vertex {
-    ghost blank = { record { parent = 0; weight = pos 0; place = 0; level = 0 } };
-
-    ghost above = { λ x. x.parent };
-
     ghost held = { λ x. greatest_level x.level };
 
-    ghost holding = { λ x value.
-        record { parent = x.parent; weight = x.weight; place = x.place; level = value.0 } };
+    ghost holding = { λ x value. record x { level = value.0 } };
 
     ghost laws = { Prim.search rules };
 
-    fn parent(&self) -> u32 {
-        self.parent
-    }
-
     fn value(&self) -> GreatestLevel {
-        GreatestLevel::new(self.level)
+        GreatestLevel::from(self.level)
     }
 
     fn set_value(&mut self, value: GreatestLevel) {
@@ -104,7 +88,7 @@ fn made(parent: u32, weight: i64, place: u32, level: u32) -> Vertex
 
 // 6 is the root; 1 lies below 4, and 2 below 3 below 5.
 fn tree() -> [Vertex; 6]
-    ensures { Grows 6 (λ v. (get_or result (v - 1) (record { parent = 0; weight = pos 0; place = 0; level = 0 })).parent) }
+    ensures { Grows 6 (field_of ⟦<Vertex as Child>⟧.blank ⟦<Vertex as Child>⟧.above result) }
 {
     [
         made(4, 1, 4, 3),
@@ -119,10 +103,9 @@ fn tree() -> [Vertex; 6]
 #[test]
 fn sums_over_a_tree(rt: HostRuntime) {
     let mut tree = tree();
-    gather::<Weight, Vertex>(&mut tree, 6);
-    let [a, b, c, d, e, f] = tree;
+    gather::<Weight, Vertex>(&mut tree);
     assert_eq!(rt;
-        [a.weight, b.weight, c.weight, d.weight, e.weight, f.weight],
+        tree.map(|vertex| vertex.weight),
         [1, 10, 110, -999, 10110, 109111]
     );
 }
@@ -130,28 +113,27 @@ fn sums_over_a_tree(rt: HostRuntime) {
 #[test]
 fn least_over_a_tree(rt: HostRuntime) {
     let mut tree = tree();
-    gather::<LeastPlace, Vertex>(&mut tree, 6);
-    let [a, b, c, d, e, f] = tree;
-    assert_eq!(rt;
-        [a.place, b.place, c.place, d.place, e.place, f.place],
-        [4, 2, 2, 1, 2, 1]
-    );
+    gather::<LeastPlace, Vertex>(&mut tree);
+    assert_eq!(rt; tree.map(|vertex| vertex.place), [4, 2, 2, 1, 2, 1]);
 }
 
 #[test]
 fn greatest_over_a_tree(rt: HostRuntime) {
     let mut tree = tree();
-    gather::<GreatestLevel, Vertex>(&mut tree, 6);
-    let [a, b, c, d, e, f] = tree;
-    assert_eq!(rt;
-        [a.level, b.level, c.level, d.level, e.level, f.level],
-        [3, 5, 5, 3, 5, 5]
-    );
+    gather::<GreatestLevel, Vertex>(&mut tree);
+    assert_eq!(rt; tree.map(|vertex| vertex.level), [3, 5, 5, 3, 5, 5]);
+}
+
+#[test]
+fn sizes_of_a_tree(rt: HostRuntime) {
+    let mut tree = tree();
+    gather_from(&mut tree, |_| Weight(1));
+    assert_eq!(rt; tree.map(|vertex| vertex.weight), [1, 1, 2, 2, 3, 6]);
 }
 
 // 2 and 4 are roots; the fifth record is no vertex of the forest.
 fn forest() -> [Vertex; 5]
-    ensures { Grows 4 (λ v. (get_or result (v - 1) (record { parent = 0; weight = pos 0; place = 0; level = 0 })).parent) }
+    ensures { Grows 4 (field_of ⟦<Vertex as Child>⟧.blank ⟦<Vertex as Child>⟧.above result) }
 {
     [
         made(2, i64::MAX, 0, 0),
@@ -165,10 +147,9 @@ fn forest() -> [Vertex; 5]
 #[test]
 fn wraps_over_a_forest(rt: HostRuntime) {
     let mut forest = forest();
-    gather::<Weight, Vertex>(&mut forest, 4);
-    let [a, b, c, d, e] = forest;
+    gather::<Weight, Vertex>(&mut forest[..4]);
     assert_eq!(rt;
-        [a.weight, b.weight, c.weight, d.weight, e.weight],
+        forest.map(|vertex| vertex.weight),
         [i64::MAX, i64::MIN, 5, 11, 7]
     );
 }

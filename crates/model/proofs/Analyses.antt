@@ -1,9 +1,11 @@
 -- What an analysis makes of a store and of a model.
-use Rattle.std.proofs.Common.{◌≡◌, ℕ, zero, suc, ◌-◌, ◌≤◌, min, Bool, true, false, ◌&&◌, ltb, leb, List, [], ◌∷◌, ◌++◌, length, take, drop, Some, None, Ok, Err, Option, sym, refl, ap, ◌∙◌, subst, arith, MatchOption}
+use Rattle.std.proofs.Common.{◌≡◌, ℕ, zero, suc, ◌-◌, ◌≤◌, min, Bool, true, false, ◌&&◌, ltb, leb, List, [], ◌∷◌, ◌++◌, length, take, drop, Ok, Err, Result, sym, refl, ap, ◌∙◌, subst, arith, MatchOption, MatchResult}
 use Rattle.std.proofs.lemmas.List.{take-append-drop, take_at, length-append, length-take-le}
 use Rattle.std.proofs.lemmas.Bool.{and_parts, leb-true, ltb-true, ne_eqb, lt-ltb, le-ltb}
 use Rattle.pattern.specs.Elimination.{total}
+use Rattle.std.specs.Result.{result_ok}
 use Rattle.sets.specs.Meaning.{Sets}
+use Rattle.sets.specs.declared.refusals.NoRoom.{NoRoom}
 use Rattle.analysis.specs.Analysed as analysis
 use Rattle.analysis.specs.Tables.{Sound, pairs_of}
 use Rattle.analysis.specs.declared.records.Entry.{Entry}
@@ -109,15 +111,16 @@ analysed_store w vs es before after total found tall long fits =
       long = omega (arith, length-append es (drop (w.held - 0) xs));
     }
 
-pub outcome_store : (w : Store) (vs : List Vertex) (es : List Entry) (before after : Sets) (o : Option ℕ) →
-    MatchOption o
-    (analysis.Refused w.order w.vertices.now vs (take (w.held - 0) w.entries.now) es before after)
-    (λ t. analysis.Analysed w.order vs (take (w.held - 0) w.entries.now) es before after t) →
+pub outcome_store : (w : Store) (vs : List Vertex) (es : List Entry) (before after : Sets) (r : Result ℕ NoRoom) →
+    MatchResult r
+    (analysis.Analysed w.order vs (take (w.held - 0) w.entries.now) es before after)
+    (λ _. analysis.Refused w.order w.vertices.now vs (take (w.held - 0) w.entries.now) es before after) →
     length vs ≡ length w.vertices.now → length es ≡ length (take (w.held - 0) w.entries.now) →
     w.held ≤ length w.entries.now →
-    MatchOption o (Refused w (put_back w vs es) before after) (λ t. Analysed w (put_back w vs es) before after t)
-outcome_store w vs es before after None found tall long fits = refused_store w vs es before after found
-outcome_store w vs es before after (Some t) found tall long fits =
+    MatchOption (result_ok r) (Refused w (put_back w vs es) before after)
+    (λ t. Analysed w (put_back w vs es) before after t)
+outcome_store w vs es before after (Err e) found tall long fits = refused_store w vs es before after found
+outcome_store w vs es before after (Ok t) found tall long fits =
     analysed_store w vs es before after t found tall long fits
 
 -- a store marked as analysed, with its total

@@ -49,7 +49,7 @@ impl<'a> Store<'a> {
             vertices,
             entries,
         } = whole;
-        let found = analyse(order, vertices, &mut entries[0..held as usize], sets);
+        let found = analyse(order, vertices, &mut entries[0..held as usize], sets).ok();
         *self = Store {
             order,
             held,

@@ -1,7 +1,7 @@
-use Rattle.std.proofs.Common.{◌≡◌}
-use Rattle.analysis.specs.Tables.{first_by}
+use Rattle.std.proofs.Common.{◌≡◌, map, take, drop, ◌++◌}
 use Rattle.analysis.specs.Counts.{uncounted}
 use Rattle.analysis.proofs.counts.begin_counts.Given as goal
 
-abbrev pub invariant-loop-i : goal.invariant-loop-i
-invariant-loop-i l = l.vertices ≡ first_by l.i uncounted l.initial.vertices
+abbrev pub invariant-loop-vertex : goal.invariant-loop-vertex
+invariant-loop-vertex l =
+    l.vertices ≡ map uncounted (take l.vertex-index l.initial.vertices) ++ drop l.vertex-index l.initial.vertices

@@ -1,56 +1,46 @@
-use Rattle.std.proofs.Common.{refl, arith}
-use Rattle.analysis.specs.Tables.{counts_from}
-use Rattle.analysis.specs.Growth.{pattern_of}
-use Rattle.analysis.proofs.Chains.{linked_only}
-use Rattle.analysis.proofs.CountedTables.{changed_then, changed_front, changed_gathered, taken_changed}
-use Rattle.analysis.proofs.CountedEvents.{ready_only, ready_grows, tops_first, tops_last}
-use Rattle.analysis.proofs.CountedEnds.{counting_none, counted_all}
+use Rattle.std.proofs.Common.{arith}
+use Rattle.analysis.specs.Growth.{Fresh}
+use Rattle.analysis.proofs.Changes.{at_equal, counts_takes, only_then}
+use Rattle.analysis.proofs.CountedTables.{gathered_only}
+use Rattle.analysis.proofs.CountedEvents.{prepared_only, ready_grows, tops_first}
+use Rattle.analysis.proofs.CountedEnds.{begun_prepared, taken_all, taken_prepared, counting_first, counted_last}
 use Rattle.analysis.proofs.counts.count.Goals as goal
 
 pub take_children-requires : goal.take_children-requires
 take_children-requires g c =
-    let p = pattern_of c.args.n c.args.entries.now in
-    let begun = changed_front c.args.n _ _ c.begin_counts.ensures in
-    record {
-      within = omega arith;
-      few = c.requires.few;
-      grows = ready_grows p _ (ready_only p _ _ begun.only c.requires.ready);
-    }
+    let begun = begun_prepared _ _ _ c.requires.prepared c.begin_counts.ensures (omega arith) in
+    record { few = begun.few; grows = ready_grows _ _ begun.tree }
 
 pub count_walk-requires : goal.count_walk-requires
 count_walk-requires g c =
-    let p = pattern_of c.args.n c.args.entries.now in
-    let begun = changed_front c.args.n _ _ c.begin_counts.ensures in
-    let first = ready_only p _ _ begun.only c.requires.ready in
-    let both = changed_then _ _ _ _ begun (taken_changed _ _ _ _ c.take_children.ensures) in
     record {
-      within = omega arith;
-      few = c.requires.few;
-      sound = c.requires.sound;
-      lists = linked_only counts_from (λ _ _. refl) _ _ _ _ _ _ _ both.only c.requires.lists;
-      ready = ready_only p _ _ both.only c.requires.ready;
-      before = counting_none p _ _ _ c.requires.within first c.begin_counts.ensures c.take_children.ensures;
-      tops = tops_first p _ c.requires.fresh;
+      prepared = taken_prepared _ _ _ c.requires.prepared c.begin_counts.ensures (omega arith) _
+          c.take_children.ensures (omega arith);
+      before = record {
+        counting = counting_first _ _ _ c.requires.prepared c.begin_counts.ensures (omega arith) _
+            c.take_children.ensures (omega arith);
+        tops = tops_first _ _ (at_equal (λ n. Fresh n) c.requires.fresh (omega arith));
+      };
     }
 
 pub gather-requires : goal.gather-requires
 gather-requires g c =
-    let p = pattern_of c.args.n c.args.entries.now in
-    let begun = changed_front c.args.n _ _ c.begin_counts.ensures in
-    let both = changed_then _ _ _ _ begun (taken_changed _ _ _ _ c.take_children.ensures) in
-    let all = changed_then _ _ _ _ both c.count_walk.ensures.changed in
-    record { within = omega arith; grows = ready_grows p _ (ready_only p _ _ all.only c.requires.ready) }
+    let taken = taken_prepared _ _ _ c.requires.prepared c.begin_counts.ensures (omega arith) _
+    c.take_children.ensures (omega arith) in
+    record { grows = ready_grows _ _ (prepared_only _ _ _ (omega arith) c.count_walk.ensures.only taken).tree }
 
 pub returns : goal.returns
 returns g c =
-    let p = pattern_of c.args.n c.args.entries.now in
-    let begun = changed_front c.args.n _ _ c.begin_counts.ensures in
-    let both = changed_then _ _ _ _ begun (taken_changed _ _ _ _ c.take_children.ensures) in
-    let all = changed_then _ _ _ _ both c.count_walk.ensures.changed in
+    let taken = taken_prepared _ _ _ c.requires.prepared c.begin_counts.ensures (omega arith) _
+    c.take_children.ensures (omega arith) in
+    let all = taken_all _ _ _ c.requires.prepared c.begin_counts.ensures (omega arith) _
+    c.take_children.ensures (omega arith) in
+    let walked = prepared_only _ c.count_walk.new.vertices _ (omega arith) c.count_walk.ensures.only taken in
+    let last = counted_last _ _ _ _ _ _ (omega arith) (omega arith) walked c.count_walk.ensures.passed c.gather.ensures in
     record {
-      counted = counted_all p _ _ c.requires.few (ready_only p _ _ all.only c.requires.ready)
-          c.count_walk.ensures.counted c.gather.ensures;
-      changed = changed_then _ _ _ _ all (changed_gathered c.args.n _ _ c.gather.ensures);
-      tops = tops_last p _ c.count_walk.ensures.tops;
+      counted = last.0;
+      only = only_then counts_takes _ _ _ all
+          (only_then counts_takes _ _ _ c.count_walk.ensures.only (gathered_only _ _ _ c.gather.ensures));
+      tops = last.1;
       size = c.count_walk.ensures.size;
     }

@@ -1,7 +1,7 @@
 use Rattle.std.proofs.Common.{sym, arith}
 use Rattle.analysis.specs.Counts.{Climbs, EntryCounted}
 use Rattle.analysis.proofs.Changes.{at_equal}
-use Rattle.analysis.proofs.CountedTables.{entry_changed, entry_counted}
+use Rattle.analysis.proofs.CountedTables.{entry_only, entry_counted}
 use Rattle.analysis.proofs.CountedEvents.{found_meets, meets_within}
 use Rattle.analysis.proofs.counts.count_entry.Goals as goal
 
@@ -29,7 +29,6 @@ weigh-requires-2 g c =
 
 pub returns : goal.returns
 returns g c =
-    let used = (g.S.AncestorSets.meaning c.args.sets.now).used in
     let vs = c.args.vertices.now in
     let x = c.args.x in
     let u = c.args.u in
@@ -40,10 +39,10 @@ returns g c =
     let b = meets_within _ vs u (g.S.AncestorSets.sound c.args.sets.now) r.0 r.1 in
     record {
       counted = at_equal (λ q. EntryCounted x u q vs)
-          (entry_counted used vs _ _ _ x u q (r.0, omega arith) (m.0, omega arith) (omega arith, omega arith)
+          (entry_counted vs _ _ _ x u q (r.0, omega arith) (m.0, omega arith) (omega arith, omega arith)
           c.lengthen_row.ensures c.weigh.ensures c.weigh-2.ensures)
           i;
-      changed = entry_changed used vs _ _ _ x u q (r.0, omega arith) (m.0, omega arith) (omega arith, omega arith)
-          c.lengthen_row.ensures c.weigh.ensures c.weigh-2.ensures r.1 m.1 (omega arith);
+      only = entry_only vs _ _ _ x u q (r.0, omega arith) (m.0, omega arith) (omega arith, omega arith)
+          c.lengthen_row.ensures c.weigh.ensures c.weigh-2.ensures;
       tops = record { size = c.find.ensures.size; used = c.find.ensures.used; tops = c.find.ensures.tops };
     }

@@ -1,11 +1,9 @@
-use Rattle.std.proofs.Common.{◌+◌, ◌-◌, refl, ap, arith}
-use Rattle.analysis.specs.Counts.{ChildrenTaken}
-use Rattle.analysis.proofs.Changes.{at_equal}
+use Rattle.std.proofs.Common.{◌+◌, ◌-◌, length, ap, arith}
 use Rattle.analysis.proofs.CountedTables.{taken_none, taken_more}
 use Rattle.analysis.proofs.counts.take_children.Goals as goal
 
 pub loop-v-init : goal.loop-v-init
-loop-v-init c = taken_none _ _ _ refl
+loop-v-init c = taken_none _
 
 pub take_child-requires : goal.take_child-requires
 take_child-requires c =
@@ -15,8 +13,15 @@ take_child-requires c =
 
 pub loop-v-preserved : goal.loop-v-preserved
 loop-v-preserved c =
-    taken_more c.args.n c.loop-v.v (c.loop-v.v + 1 - 1) _ _ _ (omega arith) (omega arith) (omega arith)
+    taken_more c.loop-v.v (c.loop-v.v + 1 - 1) _ _ _ (omega arith) (omega arith) (omega arith)
     (omega arith) c.requires.grows c.loop-v.invariant c.take_child.ensures
 
+-- no vertex
 pub returns : goal.returns
-returns c = at_equal (λ k. ChildrenTaken c.args.n k c.args.vertices.now) c.loop-v.invariant (omega arith)
+returns c = record { weights = λ v p q. absurd (omega arith); only = c.loop-v.invariant.only }
+
+-- the last one
+pub returns-2 : goal.returns-2
+returns-2 c =
+    taken_more c.loop-v.v (length c.args.vertices.now) _ _ _ (omega arith) (omega arith) (omega arith)
+    (omega arith) c.requires.grows c.loop-v.invariant c.take_child.ensures

@@ -1,10 +1,7 @@
 use Rattle.std.proofs.Common.{arith}
-use Rattle.analysis.specs.Tables.{with_head, no_vertex}
-use Rattle.analysis.proofs.Changes.{first_by_none, first_by_more}
+use Rattle.analysis.specs.Tables.{with_head}
+use Rattle.analysis.proofs.Changes.{map_more}
 use Rattle.analysis.proofs.links.clear_heads.Goals as goal
 
-pub loop-i-init : goal.loop-i-init
-loop-i-init c = first_by_none _ _
-
-pub loop-i-preserved : goal.loop-i-preserved
-loop-i-preserved c = first_by_more (λ x. with_head x 0) _ _ _ no_vertex (omega arith) c.loop-i.invariant
+pub loop-vertex-preserved : goal.loop-vertex-preserved
+loop-vertex-preserved c = map_more (λ x. with_head x 0) _ _ _ (omega arith) (omega arith) c.loop-vertex.invariant

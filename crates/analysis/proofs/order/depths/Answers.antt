@@ -1,17 +1,9 @@
-use Rattle.std.proofs.Common.{refl, arith}
-use Rattle.analysis.proofs.Changes.{deepest_takes}
-use Rattle.analysis.proofs.Gathers.{begun_grows, depths_gathered}
+use Rattle.std.proofs.Common.{arith, rules}
+use Rattle.analysis.proofs.Gathers.{depths_gathered}
 use Rattle.analysis.proofs.order.depths.Goals as goal
-
-pub gather-requires : goal.gather-requires
-gather-requires c =
-    record {
-      within = omega arith;
-      grows = begun_grows deepest_takes (λ _ _. refl) _ (λ _. refl) c.args.n _ _ c.begin_depths.ensures c.requires.grows;
-    }
 
 pub returns : goal.returns
 returns c =
-    let (depths, only, past) =
-    depths_gathered c.args.n _ _ _ (omega arith) c.requires.grows c.begin_depths.ensures c.gather.ensures c.requires.levels in
-    record { depths = depths; only = only; past = past }
+    let (depths, only) =
+    depths_gathered c.requires.forest (omega arith) (λ x j given. search rules) c.gather_from.ensures c.requires.levels in
+    record { depths = depths; only = only }

@@ -1,17 +1,9 @@
-use Rattle.std.proofs.Common.{refl, arith}
-use Rattle.analysis.proofs.Changes.{first_takes}
-use Rattle.analysis.proofs.Gathers.{begun_grows, firsts_gathered}
+use Rattle.std.proofs.Common.{arith, rules}
+use Rattle.analysis.proofs.Gathers.{firsts_gathered}
 use Rattle.analysis.proofs.order.first_places.Goals as goal
-
-pub gather-requires : goal.gather-requires
-gather-requires c =
-    record {
-      within = omega arith;
-      grows = begun_grows first_takes (λ _ _. refl) _ (λ _. refl) c.args.n _ _ c.begin_firsts.ensures c.requires.grows;
-    }
 
 pub returns : goal.returns
 returns c =
-    let (firsts, only, past) =
-    firsts_gathered c.args.n _ _ _ (omega arith) c.requires.grows c.requires.few c.begin_firsts.ensures c.gather.ensures c.requires.places in
-    record { firsts = firsts; only = only; past = past }
+    let (firsts, only) =
+    firsts_gathered c.requires.forest (omega arith) (λ x j given. search rules) c.gather_from.ensures c.requires.places in
+    record { firsts = firsts; only = only }

@@ -1,20 +1,30 @@
-use Rattle.std.proofs.Common.{arith}
-use Rattle.analysis.proofs.Tops.{found_top, top_within, merged_tops, adopted_other}
+use Rattle.std.proofs.Common.{◌∙◌, ap, is_some, arith}
+use Rattle.analysis.proofs.Tops.{found_some, found_top, top_within, two_tops, merged_tops, adopted_other}
 use Rattle.analysis.proofs.tree.adopt.Goals as goal
 
-pub bounds-vertices-r : goal.bounds-vertices-r
-bounds-vertices-r g c =
+pub unwrap-top-requires : goal.unwrap-top-requires
+unwrap-top-requires g c = ap is_some (found_some _ _ _ _ c.find.ensures c.requires.from c.requires.to)
+
+pub bounds-vertices-top : goal.bounds-vertices-top
+bounds-vertices-top g c =
     let s = g.S.AncestorSets.sound c.args.sets.now in
-    let r = found_top _ _ _ c.args.u _ _ c.unwrap_or-r.ensures c.find.ensures c.requires.from c.requires.to in
+    let r = found_top _ _ _ _ _ c.unwrap-top.ensures c.find.ensures c.requires.from c.requires.to in
     let b = top_within _ c.args.x s c.requires.from c.requires.to in
     omega arith
 
-pub returns-then-r-u : goal.returns-then-r-u
-returns-then-r-u g c =
+pub unwrap-requires : goal.unwrap-requires
+unwrap-requires g c =
     let s = g.S.AncestorSets.sound c.args.sets.now in
-    let r = found_top _ _ _ c.args.u _ _ c.unwrap_or-r.ensures c.find.ensures c.requires.from c.requires.to in
+    let r = found_top _ _ _ _ _ c.unwrap-top.ensures c.find.ensures c.requires.from c.requires.to in
+    c.merge.ensures.accepted ∙ two_tops _ _ _ _ _ _ s c.find.ensures r c.if-top-u.true c.requires.from c.requires.to
+    c.requires.above c.requires.within c.requires.own
+
+pub returns-then-top-u : goal.returns-then-top-u
+returns-then-top-u g c =
+    let s = g.S.AncestorSets.sound c.args.sets.now in
+    let r = found_top _ _ _ _ _ c.unwrap-top.ensures c.find.ensures c.requires.from c.requires.to in
     record {
-      tops = merged_tops _ _ _ _ _ _ _ _ s c.find.ensures c.merge.ensures r c.if-r-u.true c.requires.from
-          c.requires.to c.requires.above c.requires.within c.requires.own;
-      parents = adopted_other _ _ _ _ r c.if-r-u.true;
+      tops = merged_tops _ _ _ _ _ _ s c.find.ensures r c.if-top-u.true c.requires.from
+          c.requires.to c.requires.above c.requires.within c.requires.own _ _ c.merge.ensures;
+      parents = adopted_other _ _ _ _ r c.if-top-u.true;
     }

@@ -1,16 +1,14 @@
-use Rattle.std.proofs.Common.{◌≡◌}
+use Rattle.std.proofs.Common.{◌≡◌, length}
 use Rattle.analysis.specs.Tables.{parent_of, parent_from, Only}
-use Rattle.analysis.specs.Growth.{KeptPast}
 use Rattle.analysis.proofs.Tops.{RowAt}
 use Rattle.analysis.proofs.tree.adopt_row.Given as goal
 
-abbrev pub invariant-loop-k : goal.invariant-loop-k
-invariant-loop-k g l =
-    RowAt l.n l.entries l.u l.k (parent_of l.vertices) (g.S.AncestorSets.meaning l.sets).top ×
-    ((g.S.AncestorSets.meaning l.sets).size ≡ (g.S.AncestorSets.meaning l.initial.sets).size) ×
-    ((g.S.AncestorSets.meaning l.sets).used ≡ l.n) ×
-    Only parent_from l.initial.vertices l.vertices ×
-    KeptPast l.n l.initial.vertices l.vertices
-
-abbrev pub decreases-loop-k : goal.decreases-loop-k
-decreases-loop-k g l = l.k
+abbrev pub invariant-loop-entry : goal.invariant-loop-entry
+invariant-loop-entry g l = record {
+  same : l.entry-iterator.entries.now ≡ l.entries;
+  row : RowAt (length l.initial.vertices) l.entries l.u l.entry-iterator.at
+      (parent_of l.vertices) (g.S.AncestorSets.meaning l.sets).top;
+  size : (g.S.AncestorSets.meaning l.sets).size ≡ (g.S.AncestorSets.meaning l.initial.sets).size;
+  used : (g.S.AncestorSets.meaning l.sets).used ≡ length l.initial.vertices;
+  only : Only parent_from l.initial.vertices l.vertices;
+}

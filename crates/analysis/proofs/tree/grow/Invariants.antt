@@ -1,12 +1,11 @@
-use Rattle.std.proofs.Common.{◌≡◌, ◌-◌}
+use Rattle.std.proofs.Common.{◌≡◌, ◌-◌, length}
 use Rattle.analysis.specs.Tables.{parent_from, Only}
-use Rattle.analysis.specs.Growth.{Grown, KeptPast}
+use Rattle.analysis.specs.Growth.{pattern_in, Grown}
 use Rattle.analysis.proofs.tree.grow.Given as goal
 
 abbrev pub invariant-loop-u : goal.invariant-loop-u
 invariant-loop-u g l =
-    Grown l.n l.entries (l.u - 1) l.vertices (g.S.AncestorSets.meaning l.sets) ×
+    Grown (pattern_in l.fn.vertices l.entries) (l.u - 1) l.vertices (g.S.AncestorSets.meaning l.sets) ×
     ((g.S.AncestorSets.meaning l.sets).size ≡ (g.S.AncestorSets.meaning l.initial.sets).size) ×
-    ((g.S.AncestorSets.meaning l.sets).used ≡ l.n) ×
-    Only parent_from l.initial.vertices l.vertices ×
-    KeptPast l.n l.initial.vertices l.vertices
+    ((g.S.AncestorSets.meaning l.sets).used ≡ length l.fn.vertices) ×
+    Only parent_from l.fn.vertices l.vertices

@@ -1,4 +1,4 @@
-use Rattle.std.proofs.Common.{subst, arith}
+use Rattle.std.proofs.Common.{length, subst, arith}
 use Rattle.gather.proofs.Turns.{Turn, begin, parent_stays, next, finish}
 use Rattle.gather.proofs.gathering.gather.Given as given
 use Rattle.gather.proofs.gathering.gather.Goals as goal
@@ -17,7 +17,7 @@ join_up-requires g c =
 
 -- after the joining of one more vertex, the last one or not
 turned : (g : given.Over) (c : After-join_up g) →
-    Turn g.met.J.Joining.laws g.met.N.Node.laws g.N.Node.blank c.args.n c.args.nodes.now
+    Turn g.met.J.Joining.laws g.met.N.Node.laws g.N.Child.blank (length c.args.nodes.now) c.args.nodes.now
     c.loop-v.v c.join_up.new.nodes
 turned g c =
     next g.met.J.Joining.laws g.met.N.Node.laws c.requires.grows c.loop-v.v c.loop-v.nodes _
@@ -26,7 +26,7 @@ turned g c =
 
 pub loop-v-preserved : goal.loop-v-preserved
 loop-v-preserved g c =
-    let so_far = Turn g.met.J.Joining.laws g.met.N.Node.laws g.N.Node.blank c.args.n in
+    let so_far = Turn g.met.J.Joining.laws g.met.N.Node.laws g.N.Child.blank (length c.args.nodes.now) in
     subst (λ b. so_far c.args.nodes.now b c.join_up.new.nodes) (omega arith)
     (turned g (goal.at.loop-v-preserved g c).After-join_up)
 

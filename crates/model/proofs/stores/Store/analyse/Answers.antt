@@ -1,11 +1,11 @@
-use Rattle.std.proofs.Common.{◌≤◌, length, sym, subst, MatchOption}
+use Rattle.std.proofs.Common.{ℕ, ◌≤◌, Option, length, sym, subst, MatchOption}
 use Rattle.model.specs.Analysing.{Analysed, Refused}
 use Rattle.model.specs.declared.stores.Store.{Store}
 use Rattle.model.proofs.Analyses.{Ready, ready_fewer, ready_sound, outcome_store, put_back}
 use Rattle.model.proofs.stores.Store.analyse.Goals as goal
 
-pub analyse-found-requires : goal.analyse-found-requires
-analyse-found-requires g c =
+pub analyse-requires : goal.analyse-requires
+analyse-requires g c =
     let ready : Ready c.args.self.now =
     record {
       some = c.requires.some;
@@ -27,17 +27,20 @@ analyse-found-requires g c =
 pub returns : goal.returns
 returns g c =
     let w : Store = c.replace-whole.result in
-    let vs = c.analyse-found.new.vertices in
-    let es = c.analyse-found.new.entries in
+    let vs = c.analyse.new.vertices in
+    let es = c.analyse.new.entries in
     let before = g.S.AncestorSets.meaning c.args.sets.now in
-    let after = g.S.AncestorSets.meaning c.analyse-found.new.sets in
+    let after = g.S.AncestorSets.meaning c.analyse.new.sets in
     let Fits : Store → Type 0 = λ s. s.held ≤ length s.entries.now in
     let fits : Fits w = subst Fits (sym c.replace-whole.ensures.value) c.requires.fitting in
     let P : Store → Type 0 =
     λ s.
-    MatchOption c.analyse-found.result (Refused s (put_back w vs es) before after)
+    MatchOption c.ok-found.result (Refused s (put_back w vs es) before after)
     (λ t. Analysed s (put_back w vs es) before after t) in
+    let Q : Option ℕ → Type 0 =
+    λ o. MatchOption o (Refused w (put_back w vs es) before after) (λ t. Analysed w (put_back w vs es) before after t) in
     let at-whole : P w =
-    outcome_store w vs es before after c.analyse-found.result c.analyse-found.ensures
-    c.analyse-found.auto.vertices c.analyse-found.auto.entries fits in
+    subst Q (sym c.ok-found.ensures.value)
+    (outcome_store w vs es before after c.analyse.result c.analyse.ensures
+    c.analyse.auto.vertices c.analyse.auto.entries fits) in
     subst P c.replace-whole.ensures.value at-whole
