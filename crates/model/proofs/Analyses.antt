@@ -1,10 +1,11 @@
 -- What an analysis makes of a store and of a model.
-use Rattle.std.proofs.Common.{ℕ, min, Bool, true, false, ltb, [], ◌∷◌, is_some, Some, None, Ok, Err, Option, sym, subst, MatchOption, ◌≡◌, List, ◌++◌, drop, ap, ◌∙◌}
+use Rattle.std.proofs.Common.{ℕ, Bool, true, ltb, [], ◌∷◌, None, Ok, Err, Result, sym, subst, ◌≡◌, List, ◌++◌, drop, ap, ◌∙◌}
 use Rattle.std.proofs.lemmas.List.{take-append-drop}
-use Rattle.std.proofs.lemmas.Bool.{lt-ltb, le-ltb}
+use Rattle.std.proofs.lemmas.Bool.{lt-ltb}
 use Rattle.pattern.specs.Elimination.{total}
 use Rattle.std.specs.Borrow.{MutBor}
-use Rattle.std.specs.Option.{ok_or}
+use Rattle.std.specs.Result.{IsErrAnd}
+use Rattle.model.specs.declared.refusals.Refusal.{Refusal}
 use Rattle.sets.specs.Meaning.{Sets}
 use Rattle.analysis.specs.Analysed as analysis
 use Rattle.analysis.specs.declared.records.Entry.{Entry}
@@ -12,13 +13,12 @@ use Rattle.analysis.specs.declared.records.Vertex.{Vertex}
 use Rattle.model.specs.declared.models.Model.{Model}
 use Rattle.model.specs.declared.refusals.Refusal.TheVariants.{SetsTooSmall}
 use Rattle.model.specs.declared.stores.Store.{Store}
-use Rattle.model.specs.Analysing.{Analysed, Refused}
-use Rattle.model.specs.Asked.{pattern_held}
+use Rattle.model.specs.Analysing.{Refused}
 use Rattle.model.specs.Meaning.{meaning, Outcome}
-use Rattle.model.specs.States.{Analyse, accepted, empty, first_of, first_refusal, most_entries}
-use Rattle.model.specs.Stored.{held_by, means}
+use Rattle.model.specs.States.{Analyse, empty, first_of, first_refusal}
+use Rattle.model.specs.Stored.{held_by}
 use Rattle.model.proofs.Keeping.{same_model, same_store}
-use Rattle.model.proofs.Rules.{carried, none_of, refused}
+use Rattle.model.proofs.Rules.{none_of, refused}
 
 -- the slice lent, with other elements
 abbrev pub with_now : {X : Type 0} → MutBor (List X) → List X → MutBor (List X)
@@ -38,17 +38,6 @@ refused_store s t vs es before after order held total vertices entries found =
       sets = record { size = found.size; used = found.used; tops = found.tops };
     }
 
-analysed_means : (s t : Store) (before after : Sets) (sum : ℕ) → Analysed s t before after sum →
-    means t ≡ accepted (means s) (Analyse before.size)
-analysed_means s t before after sum is =
-    λ k.
-    record {
-      order = is.order k;
-      capacity = min (is.long k) most_entries;
-      entries = is.found.pairs k;
-      analysed = is_some (is.total k);
-    }
-
 -- an analysis's first refusal, by whether the sets are too small
 analyse_first : (m : Model) (size : ℕ) (narrow : Bool) → first_of (empty (meaning m) ∷ []) ≡ None →
     ltb size m.store.order ≡ narrow →
@@ -57,22 +46,11 @@ analyse_first m size narrow made is =
     none_of (empty (meaning m) ∷ []) ((ltb size m.store.order, SetsTooSmall) ∷ []) made
     ∙ (λ k. first_of ((is k, SetsTooSmall) ∷ []))
 
-pub analyse_refused : (m n : Model) (before after : Sets) (x : ℕ) → first_of (empty (meaning m) ∷ []) ≡ None →
-    Refused m.store n.store before after → Outcome (Analyse before.size) m n x (Err SetsTooSmall)
-analyse_refused m n before after x made is =
-    subst (λ (after : Model). Outcome (Analyse before.size) m after x (Err SetsTooSmall))
-    (same_model m n (sym is.store))
-    (refused _ m x _ (analyse_first m before.size true made (lt-ltb _ _ is.narrow)))
-
-pub analyse_carried : (m n : Model) (before after : Sets) (sum : ℕ) → first_of (empty (meaning m) ∷ []) ≡ None →
-    Analysed m.store n.store before after sum →
-    Outcome (Analyse before.size) m n (total (pattern_held m)) (Ok sum)
-analyse_carried m n before after sum made is =
-    carried _ m n _ _ (analyse_first m before.size false made (le-ltb _ _ is.found.room))
-    (analysed_means m.store n.store before after sum is) is.found.sums
-
-pub analyse_outcome : (m n : Model) (before after : Sets) (o : Option ℕ) → first_of (empty (meaning m) ∷ []) ≡ None →
-    MatchOption o (Refused m.store n.store before after) (Analysed m.store n.store before after) →
-    Outcome (Analyse before.size) m n (total (pattern_held m)) (ok_or o SetsTooSmall)
-analyse_outcome m n before after None made is = analyse_refused m n before after _ made is
-analyse_outcome m n before after (Some sum) made is = analyse_carried m n before after sum made is
+pub analyse_refused : (m n : Model) (before after : Sets) (x : ℕ) (r : Result ℕ Refusal) →
+    first_of (empty (meaning m) ∷ []) ≡ None → Refused m.store n.store before after →
+    IsErrAnd r (λ d. d ≡ SetsTooSmall) → Outcome (Analyse before.size) m n x r
+analyse_refused m n before after x (Ok y) made is named = absurd named
+analyse_refused m n before after x (Err d) made is named =
+    subst (λ (after : Model). Outcome (Analyse before.size) m after x (Err d)) (same_model m n (sym is.store))
+    (subst (λ e. Outcome (Analyse before.size) m m x (Err e)) (sym named)
+    (refused _ m x _ (analyse_first m before.size true made (lt-ltb _ _ is.narrow))))

@@ -1,5 +1,5 @@
 // The analysis of what a model holds.
-ghost use Rattle.std.specs.Prelude.{◌≤◌, MatchOption};
+ghost use Rattle.std.specs.Prelude.{◌≤◌, MatchResult};
 ghost use Rattle.pattern.specs.Elimination.{total};
 ghost use Rattle.model.specs.Analysing.{Analysed, Refused, SetsAfter};
 ghost use Rattle.model.specs.Asked.{pattern_held};
@@ -10,22 +10,21 @@ use crate::models::Model;
 use crate::refusals::Refusal;
 use crate::stores::Store;
 use analysis::analyse;
-use sets::AncestorSets;
+use sets::{AncestorSets, NoRoom};
 
 impl Store<'_> {
-    // Analyses the entries held, into the vertex table; answers the sum of the column counts, or `None` if the sets
-    // are too small, with nothing changed.
-    pub(crate) fn analyse<S: AncestorSets>(&mut self, sets: &mut S) -> Option<u64>
+    // Analyses the entries held, into the vertex table; answers the sum of the column counts. Refused, with nothing
+    // changed, if the sets have no room for the order.
+    pub(crate) fn analyse<S: AncestorSets>(&mut self, sets: &mut S) -> Result<u64, NoRoom>
         requires { 1 ≤ self.old.order }
-        ensures { MatchOption result
-            (Refused self.old self.new (S.meaning sets.old) (S.meaning sets.new))
-            (Analysed self.old self.new (S.meaning sets.old)
-            (S.meaning sets.new)) }
+        ensures { MatchResult result
+            (Analysed self.old self.new (S.meaning sets.old) (S.meaning sets.new))
+            (λ _. Refused self.old self.new (S.meaning sets.old) (S.meaning sets.new)) }
     {
         let entries = &mut self.entries[..self.held as usize];
-        let total = analyse(self.order, self.vertices, entries, sets)?;
+        let total = analyse(self.order, self.vertices, entries, sets).ok_or(NoRoom)?;
         self.total = Some(total);
-        Some(total)
+        Ok(total)
     }
 }
 
@@ -38,6 +37,6 @@ impl Model<'_> {
             (S.meaning sets.old) (S.meaning sets.new) result }
     {
         self.judge_made()?;
-        self.store.analyse(sets).ok_or(Refusal::SetsTooSmall)
+        Ok(self.store.analyse(sets)?)
     }
 }
