@@ -18,7 +18,7 @@ use Rattle.analysis.proofs.CountedEnds.{column_fits}
 
 -- an option that holds a value
 holds : (o : Option ℕ) → is_some o ≡ true → (x : ℕ) × (o ≡ Some x)
-holds None is = let z : ◌≡◌ {A = ℕ} 0 1 = cc in absurd (omega arith)
+holds None is = absurd (cc)
 holds (Some x) is = (x, refl)
 
 -- an integer that 32 bits hold without a sign

@@ -108,7 +108,7 @@ pub record Found (k i j p : ℕ) (es : List Entry) : Type 0 where
 pub index_found : (n k i j p : ℕ) (es : List Entry) → Sound n (pairs_of es) →
     position_from (joins (sorted i j)) k es ≡ Some p → Found k i j p es
 unfolding without
-index_found n k i j p [] all is = let z : ◌≡◌ {A = ℕ} 0 1 = cc in absurd (omega arith)
+index_found n k i j p [] all is = absurd (cc)
 index_found n k i j p (e ∷ es) all is =
     let (less, there) = sorted_head n e es all in
     let same = same_is e.low e.high i j less in

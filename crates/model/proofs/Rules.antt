@@ -1,5 +1,5 @@
 -- Which of several rules is met first, and what that makes of a call's outcome.
-use Rattle.std.proofs.Common.{not, is_some, Result, subst, ◌≡◌, ℕ, true, false, List, [], ◌∷◌, ◌++◌, Some, None, Ok, Err, Option, sym, refl, ap, ◌∙◌, arith}
+use Rattle.std.proofs.Common.{not, is_some, Result, subst, ◌≡◌, true, false, List, [], ◌∷◌, ◌++◌, Some, None, Ok, Err, Option, sym, refl, ap, ◌∙◌}
 use Rattle.std.specs.Option.{ok_or}
 use Rattle.std.specs.Result.{IsErrAnd}
 use Rattle.model.specs.declared.models.Model.{Model}
@@ -10,7 +10,7 @@ use Rattle.model.specs.States.{Given, Rule, first_of, first_refusal, accepted, i
 -- the rules after those that are not met
 pub none_of : (xs ys : List Rule) → first_of xs ≡ None → first_of (xs ++ ys) ≡ first_of ys
 none_of [] ys none = refl
-none_of ((true, f) ∷ xs) ys none = let z : ◌≡◌ {A = ℕ} 0 1 = cc in absurd (omega arith)
+none_of ((true, f) ∷ xs) ys none = absurd (cc)
 none_of ((false, f) ∷ xs) ys none = none_of xs ys none
 
 -- none of the rules is met
@@ -20,13 +20,13 @@ Unmet ((met, f) ∷ rules) = (met ≡ false) × Unmet rules
 
 pub unmet : (rules : List Rule) → first_of rules ≡ None → Unmet rules
 unmet [] none = tt
-unmet ((true, f) ∷ rules) none = let z : ◌≡◌ {A = ℕ} 0 1 = cc in absurd (omega arith)
+unmet ((true, f) ∷ rules) none = absurd (cc)
 unmet ((false, f) ∷ rules) none = (refl, unmet rules none)
 
 -- what an answer that is no refusal tells
 pub answered : {X : Type 0} (o : Option Refusal) (x y : X) → answer o x ≡ Ok y → (o ≡ None) × (x ≡ y)
 answered None x y ok = (refl, cc)
-answered (Some f) x y ok = let z : ◌≡◌ {A = ℕ} 0 1 = cc in absurd (omega arith)
+answered (Some f) x y ok = absurd (cc)
 
 pub refused : {X : Type 0} (g : Given) (m : Model) (x : X) (f : Refusal) → first_refusal (meaning m) g ≡ Some f →
     Outcome g m m x (Err f)
@@ -43,7 +43,7 @@ carried g m n x y is turned same =
     record {
       answers = ap Ok same ∙ ap (λ o. answer o x) (sym is);
       turns = turned ∙ ap (λ o. if_accepted o (accepted (meaning m) g) (meaning m)) (sym is);
-      keeps = λ err. let z : ◌≡◌ {A = ℕ} 0 1 = cc in absurd (omega arith);
+      keeps = λ err. absurd (cc);
     }
 
 -- a call that answers as an option that holds nothing does
@@ -51,5 +51,5 @@ pub missed : {X Y : Type 0} (g : Given) (m : Model) (x : X) (o : Option Y) (e f 
     first_refusal (meaning m) g ≡ first_of ((not (is_some o), f) ∷ []) → ok_or o f ≡ Err e →
     IsErrAnd r (λ d. d ≡ e) → Outcome g m m x r
 missed g m x None e f (Err d) is err same = subst (λ d. Outcome g m m x (Err d)) (cc) (refused g m x f is)
-missed g m x (Some y) e f (Err d) is err same = let z : ◌≡◌ {A = ℕ} 0 1 = cc in absurd (omega arith)
+missed g m x (Some y) e f (Err d) is err same = absurd (cc)
 missed g m x o e f (Ok y) is err same = absurd same

@@ -1,4 +1,4 @@
-// Whether a call is refused, and why: a rule or two at a time, in the order in which a call meets them.
+// Whether a call is refused, and why: one rule at a time, and then those of a call in their order.
 ghost use Rattle.std.specs.Prelude.{◌≡◌, [], ◌∷◌};
 ghost use Rattle.pattern.specs.Elimination.{total};
 ghost use Rattle.model.specs.Asked.{pattern_held, told};
@@ -21,7 +21,7 @@ impl Model<'_> {
         Ok(())
     }
 
-    // Whether v is one of the vertices 1 to n.
+    // Whether v is one of the vertices, 1 to the order.
     pub(crate) fn judge_vertex(&self, v: u32, side: Side) -> Result<(), Refusal>
         ensures { result ≡ answer (first_of (outside (meaning self.now) side v ∷ [])) tt }
     {
@@ -50,6 +50,7 @@ impl Model<'_> {
         }
         Ok(Pair::of(i, j))
     }
+
     // Whether v can be asked of.
     pub(crate) fn judge_question(&self, v: u32) -> Result<(), Refusal>
         ensures { result ≡ told self.now (Question v) tt }

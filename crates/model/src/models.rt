@@ -1,7 +1,6 @@
 // The model: a pattern held in lent tables, with its analysis.
 ghost use Rattle.std.specs.Prelude.{◌≡◌};
 ghost use Rattle.std.specs.Option.{ForSome};
-ghost use Rattle.std.proofs.Props.{props};
 ghost use Rattle.analysis.specs.Analysed.{Answered};
 ghost use Rattle.pattern.specs.Elimination.{total};
 ghost use Rattle.model.specs.States.{pattern_in};

@@ -10,6 +10,7 @@ use analysis::records::{Entry, Vertex};
 #[derive(Drop)]
 pub struct Store<'a> {
     pub order: u32,
+    // how many are held at the start of the entry table, which is lent whole: nothing is allocated
     pub held: u32,
     // the sum of all column counts, once analysed
     pub total: Option<u64>,
