@@ -4,7 +4,9 @@ use Rattle.std.proofs.lemmas.List.{take-append-drop}
 use Rattle.std.proofs.lemmas.Bool.{lt-ltb}
 use Rattle.pattern.specs.Elimination.{total}
 use Rattle.std.specs.Borrow.{MutBor}
-use Rattle.std.specs.Result.{IsErrAnd}
+use Rattle.std.specs.Result.{IsErr, IsErrAnd, MatchResult}
+use Rattle.std.proofs.lemmas.Result.{MatchResult-from_err}
+use Rattle.sets.specs.declared.refusals.NoRoom.{NoRoom}
 use Rattle.model.specs.declared.refusals.Refusal.{Refusal}
 use Rattle.sets.specs.Meaning.{Sets}
 use Rattle.analysis.specs.Analysed as analysis
@@ -13,7 +15,7 @@ use Rattle.analysis.specs.declared.records.Vertex.{Vertex}
 use Rattle.model.specs.declared.models.Model.{Model}
 use Rattle.model.specs.declared.refusals.Refusal.TheVariants.{SetsTooSmall}
 use Rattle.model.specs.declared.stores.Store.{Store}
-use Rattle.model.specs.Analysing.{Refused}
+use Rattle.model.specs.Analysing.{Analysed, Refused}
 use Rattle.model.specs.Meaning.{meaning, Outcome}
 use Rattle.model.specs.States.{Analyse, empty, first_of, first_refusal}
 use Rattle.model.specs.Stored.{held_by}
@@ -24,7 +26,7 @@ use Rattle.model.proofs.Rules.{none_of, refused}
 abbrev pub with_now : {X : Type 0} → MutBor (List X) → List X → MutBor (List X)
 with_now r xs = record { ref_ptr = r.ref_ptr; ghost_name = r.ghost_name; now = xs }
 
-pub refused_store : (s t : Store) (vs : List Vertex) (es : List Entry) (before after : Sets) →
+refused_store : (s t : Store) (vs : List Vertex) (es : List Entry) (before after : Sets) →
     t.order ≡ s.order → t.held ≡ s.held → t.total ≡ s.total → t.vertices ≡ with_now s.vertices vs →
     t.entries ≡ with_now s.entries (es ++ drop s.held s.entries.now) →
     analysis.Refused s.order s.vertices.now vs (held_by s) es before after → Refused s t before after
@@ -37,6 +39,15 @@ refused_store s t vs es before after order held total vertices entries found =
           (entries ∙ ap (with_now s.entries) whole);
       sets = record { size = found.size; used = found.used; tops = found.tops };
     }
+
+-- an analysis of a store that is refused
+pub refusal : (s t : Store) (vs : List Vertex) (es : List Entry) (before after : Sets) (r : Result ℕ NoRoom) →
+    t.order ≡ s.order → t.held ≡ s.held → t.total ≡ s.total → t.vertices ≡ with_now s.vertices vs →
+    t.entries ≡ with_now s.entries (es ++ drop s.held s.entries.now) → IsErr r →
+    analysis.Refused s.order s.vertices.now vs (held_by s) es before after →
+    MatchResult r (Analysed s t before after) (λ _. Refused s t before after)
+refusal s t vs es before after r order held total vertices entries err found =
+    MatchResult-from_err r _ _ err (λ _. refused_store s t vs es before after order held total vertices entries found)
 
 -- an analysis's first refusal, by whether the sets are too small
 analyse_first : (m : Model) (size : ℕ) (narrow : Bool) → first_of (empty (meaning m) ∷ []) ≡ None →

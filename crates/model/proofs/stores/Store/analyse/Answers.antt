@@ -1,12 +1,10 @@
 use Rattle.std.proofs.Common.{refl, ap, ◌∙◌}
-use Rattle.std.proofs.lemmas.Result.{MatchResult-from_err}
 use Rattle.std.specs.Result.{result_ok}
-use Rattle.model.proofs.Analyses.{refused_store}
+use Rattle.model.proofs.Analyses.{refusal}
 use Rattle.model.proofs.stores.Store.analyse.Goals as goal
 
 pub returns-in_err-total : goal.returns-in_err-total
 returns-in_err-total g c =
     let none = c.ok_or.ensures.ok_part ∙ ap result_ok c.in_err-total.was in
-    let refused = rw none at c.analyse.ensures in
-    MatchResult-from_err _ _ _ c.from_residual.ensures.0
-    (λ _. refused_store c.args.self.now _ _ _ _ _ refl refl refl refl refl refused)
+    let found = rw none at c.analyse.ensures in
+    refusal c.args.self.now _ _ _ _ _ _ refl refl refl refl refl c.from_residual.ensures.0 found
