@@ -94,7 +94,7 @@ keep_all [] = refl
 keep_all (x ∷ xs) = ap suc (keep_all xs)
 
 -- a column is no longer than the pattern's order
-column_fits : (p : Pattern) (v : ℕ) → col_count p v ≤ p.order
+pub column_fits : (p : Pattern) (v : ℕ) → col_count p v ≤ p.order
 unfolding col_count col
 column_fits p v =
     let a = keep_grows (λ u. eqb u v || (ltb v u && fill p v u)) (λ _. true) (λ _ _. refl) (upto p.order) in

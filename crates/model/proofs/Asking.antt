@@ -1,39 +1,25 @@
 -- What a question that is not refused reads in the vertex table.
-use Rattle.std.proofs.Common.{◌≡◌, ℕ, suc, ◌-◌, ◌≤◌, Bool, true, false, cond, not, ◌&&◌, ◌||◌, T, eqb, ltb, List, [], ◌∷◌, length, ℤ, pos, nat_abs, None, Ok, Result, sym, ap, ◌∙◌, subst, arith, w32, w64, Fits, to_z, of_z}
+use Rattle.std.proofs.Common.{◌≡◌, ℕ, ◌-◌, ◌≤◌, true, T, ℤ, pos, nat_abs, is_some, None, Some, Ok, Option, refl, Result, sym, ap, ◌∙◌, subst, arith, w32, w64, Fits, to_z, of_z}
 use lib.Signed.{non_neg}
 use Rattle.std.proofs.lemmas.Int.{ints}
-use Rattle.std.proofs.lemmas.Bool.{ne_eqb, not-false}
+use Rattle.std.proofs.lemmas.Bool.{not-false}
 use Rattle.analysis.specs.Tables.{vertex}
-use Rattle.pattern.specs.Lists.{keep, upto}
-use Rattle.pattern.specs.Patterns.{Pattern}
-use Rattle.pattern.specs.Elimination.{col, col_count, fill, total}
+use Rattle.pattern.specs.Elimination.{col_count}
 use Rattle.pattern.specs.Analysis.{height_of}
-use Rattle.pattern.proofs.Lists.{length_upto}
 use Rattle.model.specs.declared.models.Model.{Model}
 use Rattle.model.specs.declared.numbers.Numbers.{Numbers}
 use Rattle.model.specs.declared.refusals.Refusal.{Refusal}
-use Rattle.model.specs.declared.refusals.Refusal.TheVariants.{EmptyModel, NotAnalysed}
 use Rattle.model.specs.Asked.{asked, numbers_of, pattern_held, told}
 use Rattle.model.specs.Meaning.{meaning}
-use Rattle.model.specs.States.{Question, Total, answer, first_of, first_refusal, rules}
+use Rattle.model.specs.States.{Question, answer, rules}
 use Rattle.model.proofs.Keeping.{within_from}
-use Rattle.model.proofs.Rules.{unmet}
+use Rattle.model.proofs.Rules.{answered, unmet}
+use Rattle.analysis.proofs.CountedEnds.{column_fits}
 
--- those kept of a list are no more than it has
-keep_fewer : (test : ℕ → Bool) (xs : List ℕ) → length (keep test xs) ≤ length xs
-unfolding keep
-keep_fewer test [] = omega arith
-keep_fewer test (x ∷ xs) =
-    let i = keep_fewer test xs in
-    elim (test x) as (λ t. length (cond t (x ∷ keep test xs) (keep test xs)) ≤ suc (length xs))
-    [ true ↦ omega arith | false ↦ omega arith ]
-
-column_fits : (p : Pattern) (v : ℕ) → col_count p v ≤ p.order
-unfolding col_count col
-column_fits p v =
-    let a = keep_fewer (λ u. eqb u v || (ltb v u && fill p v u)) (upto p.order) in
-    let b = length_upto p.order in
-    omega arith
+-- an option that holds a value
+holds : (o : Option ℕ) → is_some o ≡ true → (x : ℕ) × (o ≡ Some x)
+holds None is = absurd (cc)
+holds (Some x) is = (x, refl)
 
 -- an integer that 32 bits hold without a sign
 abbrev Casts : ℤ → Type 0
@@ -59,20 +45,21 @@ pub record Asks (m : Model) (v : ℕ) : Type 0 where
       }))
       (asked numbers_of m v)
 
-pub asks : (m : Model) (v : ℕ) → first_refusal (meaning m) (Question v) ≡ None → Asks m v
-asks m v none =
-    let (order, (first, (last, end))) = unmet (rules (meaning m) (Question v)) none in
-    let analysed = not-false _ last in
-    let inside = not-false _ first in
-    let (one, most) = within_from m.store.order v inside in
+pub asks : (m : Model) (v : ℕ) (r : Result (Unit {0}) Refusal) → r ≡ told m (Question v) tt → r ≡ Ok tt → Asks m v
+asks m v r told ok =
+    let (none, same) = answered _ _ _ (sym told ∙ ok) in
+    let (order, (outside, (unanalysed, end))) = unmet (rules (meaning m) (Question v)) none in
+    let (sum, analysed) = holds m.store.total (not-false _ unanalysed) in
+    let (one, most) = within_from m.store.order v (not-false _ outside) in
     let x = vertex m.store.vertices.now v in
     let p = pattern_held m in
-    let sum = m.heights analysed v inside in
+    let found = m.answered sum analysed in
+    let level = found.heights v one most in
     let height : x.deepest.0 - x.level ≡ height_of p v = omega arith in
     let fits = column_fits p v in
-    let small = m.small in
+    let small = m.store.small in
     let back : to_z w64 (col_count p v) ≡ pos (col_count p v) = omega (arith, ints) in
-    let weight = ap (λ z. to_z w64 (of_z w64 z)) (m.columns analysed v inside) ∙ back in
+    let weight = ap (λ z. to_z w64 (of_z w64 z)) (found.columns v one most) ∙ back in
     record {
       one = one;
       most = most;
@@ -82,21 +69,12 @@ asks m v none =
           (λ k.
           Ok
           (record {
-            parent = m.parents analysed v inside k;
-            place = m.places analysed v inside k;
-            first = m.firsts analysed v inside k;
+            parent = found.parents v one most k;
+            place = found.places v one most k;
+            first = found.firsts v one most k;
             height = height k;
-            rows = m.rows analysed v inside k;
+            rows = found.rows v one most k;
             columns = nat_abs (weight k);
           }))
           ∙ ap (λ o. answer o (numbers_of p v)) (sym none);
     }
-
--- the question for the total, of an analysed model that is not the empty one
-pub total_told : (m : Model) → (m.store.order ≡ 0 → ⊥) → m.store.analysed ≡ true →
-    ◌≡◌ {A = Result ℕ Refusal} (Ok m.store.total) (told m Total (total (pattern_held m)))
-total_told m some analysed =
-    let none : first_refusal (meaning m) Total ≡ None =
-    (λ k.
-    first_of ((ne_eqb m.store.order 0 some k, EmptyModel) ∷ (not (analysed k), NotAnalysed) ∷ [])) in
-    ap Ok (m.sums analysed) ∙ ap (λ o. answer o (total (pattern_held m))) (sym none)

@@ -1,5 +1,5 @@
 -- What an analysis makes of a store, and of the ancestor sets lent to it.
-use Rattle.std.specs.Prelude.{◌≡◌, ℕ, ◌<◌, true, length, is_ok, is_err, Result}
+use Rattle.std.specs.Prelude.{◌≡◌, ℕ, ◌<◌, true, length, is_ok, is_err, Some, Result}
 use Rattle.pattern.specs.Patterns.{Pattern}
 use Rattle.sets.specs.Meaning.{Sets}
 use Rattle.analysis.specs.Analysed as analysis
@@ -20,10 +20,11 @@ pub record Refused (s t : Store) (before after : Sets) : Type 0 where
   pub sets : Untouched before after
 
 -- the vertex table is filled in; the entries are as they were but for their links
-pub record Analysed (s t : Store) (before after : Sets) (total : ℕ) : Type 0 where
-  pub found : analysis.Analysed s.order t.vertices.now (held_by s) (held_by t) before after total
+pub record Analysed (s t : Store) (before after : Sets) (sum : ℕ) : Type 0 where
+  pub found : analysis.Analysed s.order t.vertices.now (held_by s) (held_by t) before after sum
   pub order : t.order ≡ s.order
   pub held : t.held ≡ s.held
+  pub total : t.total ≡ Some sum
   pub tall : length t.vertices.now ≡ length s.vertices.now
   pub long : length t.entries.now ≡ length s.entries.now
 

@@ -4,10 +4,11 @@
 
 mod analysing;
 mod changes;
-mod lookup;
+mod judges;
 mod making;
 mod models;
 mod numbers;
+mod pairs;
 mod questions;
 mod reading;
 mod refusals;

@@ -28,16 +28,12 @@ pub fn judge(order: u32, vertices: &[Vertex]) -> Result<(), Refusal>
 pub fn make<'a>(order: u32, vertices: &'a mut [Vertex], entries: &'a mut [Entry]) -> Model<'a>
     ensures { meaning result ≡ made order (length vertices.old) (length entries.old) }
 {
-    let order = match judge(order, vertices) {
-        Ok(()) => order,
-        Err(_) => 0,
-    };
+    let order = judge(order, vertices).map_or(0, |()| order);
     Model {
         store: Store {
             order,
             held: 0,
-            analysed: false,
-            total: 0,
+            total: None,
             vertices,
             entries,
         },
@@ -57,15 +53,11 @@ impl<'a> Model<'a> {
         ensures vertices { result.0.now ≡ self.entry.store.vertices.now }
         ensures entries { result.1.now ≡ self.entry.store.entries.now }
     {
-        let Model { store } = self;
         let Store {
-            order: _,
-            held: _,
-            analysed: _,
-            total: _,
             vertices,
             entries,
-        } = store;
+            ..
+        } = self.store;
         (vertices, entries)
     }
 }

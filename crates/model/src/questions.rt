@@ -3,31 +3,14 @@ ghost use Rattle.std.specs.Prelude.{◌≡◌};
 ghost use Rattle.pattern.specs.Analysis.{first_place_of, height_of, place_of};
 ghost use Rattle.pattern.specs.Elimination.{col_count, parent, row_count, total};
 ghost use Rattle.model.specs.Asked.{asked, numbers_of, pattern_held, told};
-ghost use Rattle.model.specs.States.{Question, Total};
+ghost use Rattle.model.specs.States.{Total};
 
-use crate::changes::is_vertex;
 use crate::models::Model;
 use crate::numbers::Numbers;
-use crate::refusals::{Refusal, Side};
+use crate::refusals::Refusal;
 
 impl Model<'_> {
-    // Whether v can be asked of.
-    fn judge_question(&self, v: u32) -> Result<(), Refusal>
-        ensures { result ≡ told self.now (Question v) tt }
-    {
-        if self.store.order == 0 {
-            return Err(Refusal::EmptyModel);
-        }
-        if !is_vertex(self.store.order, v) {
-            return Err(Refusal::VertexOutOfRange(Side::First));
-        }
-        if !self.store.analysed {
-            return Err(Refusal::NotAnalysed);
-        }
-        Ok(())
-    }
-
-    // What the analysis answers of v.
+    // What the analysis answers of v. Each question below is a call that users have; all share this one.
     fn ask(&self, v: u32) -> Result<Numbers, Refusal>
         ensures { result ≡ asked numbers_of self.now v }
     {
@@ -89,12 +72,7 @@ impl Model<'_> {
     pub fn total(&self) -> Result<u64, Refusal>
         ensures { result ≡ told self.now Total (total (pattern_held self.now)) }
     {
-        if self.store.order == 0 {
-            return Err(Refusal::EmptyModel);
-        }
-        if !self.store.analysed {
-            return Err(Refusal::NotAnalysed);
-        }
-        Ok(self.store.total)
+        self.judge_made()?;
+        self.judge_analysed()
     }
 }

@@ -34,6 +34,6 @@ impl Model<'_> {
     pub fn is_analysed(&self) -> bool
         ensures { result ≡ (meaning self.now).analysed }
     {
-        self.store.analysed
+        self.store.total.is_some()
     }
 }

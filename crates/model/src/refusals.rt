@@ -2,6 +2,8 @@
 ghost use Rattle.std.specs.Prelude.{◌≡◌};
 ghost use Rattle.model.specs.Refusals.{number_of};
 
+use sets::NoRoom;
+
 // Which of the vertices that a call was given, in the order in which it was given them.
 #[derive(Clone, Copy, PartialEq, Eq, Debug)]
 pub enum Side {
@@ -34,7 +36,7 @@ pub enum Refusal {
 }
 
 impl Refusal {
-    // The refusal's number, by which every answer names it.
+    // The refusal's number, by which every answer names it; two refusals share one, so that it is no discriminant.
     pub fn number(self) -> u8
         ensures { result ≡ number_of self }
     {
@@ -48,5 +50,15 @@ impl Refusal {
             Refusal::EntryNotHeld => 14,
             Refusal::NotAnalysed => 15,
         }
+    }
+}
+
+impl From<NoRoom> for Refusal {
+    ghost use Rattle.model.specs.declared.refusals.Refusal.TheVariants.{SetsTooSmall};
+
+    ghost from_gives = { λ _ refusal. refusal ≡ SetsTooSmall };
+
+    fn from(_: NoRoom) -> Refusal {
+        Refusal::SetsTooSmall
     }
 }

@@ -1,41 +1,66 @@
-// The tables that a model holds its entries and its analysis in. What always holds of them, the model says.
-ghost use Rattle.std.specs.Prelude.{◌≡◌, ◌+◌, ◌^◌, ◌<◌, ◌≤◌, false, length};
-ghost use Rattle.std.specs.List.{remove};
-ghost use Rattle.model.specs.Stored.{Pushed, Removed};
+// The tables that a model holds its entries and its analysis in.
+ghost use Rattle.std.specs.Prelude.{◌≡◌, ◌≤◌, min, take, true, length};
+ghost use Rattle.analysis.specs.Tables.{Sound, pairs_of};
+ghost use Rattle.model.specs.States.{largest_order, most_entries};
+ghost use Rattle.model.specs.Tables.{distinct};
 
+use crate::pairs::Pair;
 use analysis::records::{Entry, Vertex};
 
 #[derive(Drop)]
 pub struct Store<'a> {
     pub order: u32,
+    // how many are held at the start of the entry table, which is lent whole: nothing is allocated
     pub held: u32,
-    pub analysed: bool,
-    pub total: u64,
+    // the sum of all column counts, once analysed
+    pub total: Option<u64>,
     pub vertices: &'a mut [Vertex],
     pub entries: &'a mut [Entry],
+    ghost small: { order ≤ largest_order },
+    ghost placed: { order ≤ length vertices.now },
+    // no more entries are held than the capacity, the length of the entry table or 262,144 if that is less
+    ghost room: { held ≤ min (length entries.now) most_entries },
+    // the two vertices of each entry are of the order, the lower one first; so the empty store, of order 0, holds none
+    ghost sound: { Sound order (pairs_of (take held entries.now)) },
+    // no entry is held twice, either way round
+    ghost apart: { distinct (pairs_of (take held entries.now)) ≡ true },
 }
 
 impl Store<'_> {
-    // Holds one more entry, after the others.
-    pub(crate) fn push(&mut self, low: u32, high: u32)
-        requires room { self.old.held < length self.old.entries.now }
-        requires countable { self.old.held + 1 < 2 ^ 32 }
-        ensures { Pushed low high self.old self.new }
+    ghost use Rattle.std.specs.Prelude.{◌<◌};
+    ghost use Rattle.model.specs.Stored.{Fresh, Pushed, Removed, held_by};
+    ghost use Rattle.model.specs.Tables.{index_of};
+
+    // Where the entry of these two vertices stands, if it does.
+    pub(crate) fn find(&self, pair: Pair) -> Option<usize>
+        ensures { result ≡ index_of pair (held_by self.now) }
     {
-        self.entries[self.held as usize] = Entry { low, high, link: 0 };
+        self.entries[..self.held as usize]
+            .iter()
+            .position(|entry| entry.low == pair.low && entry.high == pair.high)
+    }
+
+    // Holds one more entry, after the others.
+    pub(crate) fn push(&mut self, pair: Pair)
+        requires { Fresh pair self.old }
+        ensures { Pushed pair self.old self.new }
+    {
+        self.entries[self.held as usize] = Entry {
+            low: pair.low,
+            high: pair.high,
+            link: 0,
+        };
         self.held += 1;
-        self.analysed = false;
+        self.total = None;
     }
 
     // Takes out the entry that stands at an index; those after it move down by one.
     pub(crate) fn remove(&mut self, at: usize)
         requires stands { at < self.old.held }
-        requires fitting { self.old.held ≤ length self.old.entries.now }
         ensures { Removed at self.old self.new }
     {
-        let held = self.held as usize;
-        self.entries.copy_within(at + 1..held, at);
+        self.entries[..self.held as usize].copy_within(at + 1.., at);
         self.held -= 1;
-        self.analysed = false;
+        self.total = None;
     }
 }

@@ -1,49 +1,9 @@
-use Rattle.std.proofs.Common.{◌≡◌, ℕ, refl, arith}
-use Rattle.model.proofs.Analyses.{sound_from, analysed_kept, analyse_refused, analyse_carried}
-use Rattle.model.proofs.Keeping.{kept_same}
+use Rattle.std.proofs.Common.{sym, ◌∙◌}
+use Rattle.model.proofs.Analyses.{analyse_refused}
+use Rattle.model.proofs.Rules.{answered}
 use Rattle.model.proofs.models.Model.analyse.Goals as goal
 
-pub analyse-requires : goal.analyse-requires
-analyse-requires g c =
-    let m = c.args.self.now in
-    let room = m.room in
-    let some = c.if-self-eq0.false in
-    record {
-      some = omega arith;
-      few = m.small;
-      placed = m.placed;
-      fitting = omega arith;
-      fewer = omega arith;
-      sound = sound_from _ _ m.sound;
-    }
-
-pub invariant_of-self : goal.invariant_of-self
-invariant_of-self g c =
-    kept_same c.args.self.now _ c.in_default.ensures.store
-
-pub invariant_of-self-2 : goal.invariant_of-self-2
-invariant_of-self-2 g c = analysed_kept c.args.self.now _ _ _ _ c.in-Some.ensures
-
-pub returns-in_default : goal.returns-in_default
-returns-in_default g c =
-    record {
-      outcome = analyse_refused c.args.self.now _ _ _ _ c.if-self-eq0.false c.in_default.ensures;
-      sets =
-          record {
-            size = c.in_default.ensures.sets.size;
-            refused = λ _. c.in_default.ensures.sets;
-            accepted = λ ok. let z : ◌≡◌ {A = ℕ} 0 1 = cc in absurd (omega arith);
-          };
-    }
-
-pub returns : goal.returns
-returns g c =
-    record {
-      outcome = analyse_carried c.args.self.now _ _ _ _ _ c.if-self-eq0.false c.in-Some.ensures refl;
-      sets =
-          record {
-            size = c.in-Some.ensures.found.size;
-            refused = λ err. let z : ◌≡◌ {A = ℕ} 0 1 = cc in absurd (omega arith);
-            accepted = λ _. c.in-Some.ensures.found.tops;
-          };
-    }
+pub returns-in_err-analyse-clause-outcome : goal.returns-in_err-analyse-clause-outcome
+returns-in_err-analyse-clause-outcome g c =
+    let (made, end) = answered _ _ _ (sym c.judge_made.ensures ∙ c.in_ok-judge_made.was) in
+    analyse_refused c.args.self.now _ _ _ _ _ made c.in_err-analyse.ensures c.from_residual-in_err-analyse.ensures.1

@@ -1,31 +1,20 @@
-use Rattle.std.proofs.Common.{sym, ◌∙◌, arith}
+use Rattle.std.proofs.Common.{arith}
 use Rattle.model.proofs.Asking.{asks}
-use Rattle.model.proofs.Rules.{met_none}
 use Rattle.model.proofs.models.Model.ask.Goals as goal
 
 pub overflow_sub-found : goal.overflow_sub-found
-overflow_sub-found c =
-    (asks c.args.self.now c.args.v
-    (met_none _ tt (sym c.judge_question.ensures ∙ c.in_ok-judge_question.was))).one
+overflow_sub-found c = (asks c.args.self.now c.args.v _ c.judge_question.ensures c.in_ok-judge_question.was).one
 
 pub bounds-self-v : goal.bounds-self-v
 bounds-self-v c =
-    let known =
-    asks c.args.self.now c.args.v
-    (met_none _ tt (sym c.judge_question.ensures ∙ c.in_ok-judge_question.was)) in
-    omega (arith, known.one, known.most, c.args.self.now.placed)
+    let known = asks c.args.self.now c.args.v _ c.judge_question.ensures c.in_ok-judge_question.was in
+    omega (arith, c.args.self.now.store.placed)
 
 pub overflow_sub-result : goal.overflow_sub-result
-overflow_sub-result c =
-    (asks c.args.self.now c.args.v
-    (met_none _ tt (sym c.judge_question.ensures ∙ c.in_ok-judge_question.was))).rises
+overflow_sub-result c = (asks c.args.self.now c.args.v _ c.judge_question.ensures c.in_ok-judge_question.was).rises
 
 pub overflow_cast-result : goal.overflow_cast-result
-overflow_cast-result c =
-    (asks c.args.self.now c.args.v
-    (met_none _ tt (sym c.judge_question.ensures ∙ c.in_ok-judge_question.was))).casts
+overflow_cast-result c = (asks c.args.self.now c.args.v _ c.judge_question.ensures c.in_ok-judge_question.was).casts
 
 pub returns : goal.returns
-returns c =
-    (asks c.args.self.now c.args.v
-    (met_none _ tt (sym c.judge_question.ensures ∙ c.in_ok-judge_question.was))).reads
+returns c = (asks c.args.self.now c.args.v _ c.judge_question.ensures c.in_ok-judge_question.was).reads

@@ -1,32 +1,27 @@
-use Rattle.std.proofs.Common.{true, false, is_some, sym, ap, ◌∙◌, arith}
-use Rattle.model.proofs.Judging.{drop_first, counted, stands}
-use Rattle.model.proofs.Rules.{met_none, refused}
-use Rattle.model.proofs.Turns.{removed_means, removed_kept}
+use Rattle.std.proofs.Common.{true, is_some, refl, sym, ap, ◌∙◌}
+use Rattle.std.specs.Result.{result_ok}
+use Rattle.model.proofs.Judging.{judged, drop_first, drop_turned, counted, stands}
+use Rattle.model.proofs.Rules.{missed}
 use Rattle.model.proofs.models.Model.drop_entry.Goals as goal
 
-pub returns-in_default : goal.returns-in_default
-returns-in_default c =
-    let none = met_none _ tt (sym c.judge_entry.ensures ∙ c.in_ok-judge_entry.was) in
-    refused _ _ _ _ (drop_first c.args.self.now c.args.i c.args.j _ false none c.find_entry.ensures
-    (ap is_some c.in_default.is))
+pub returns-in_err-at : goal.returns-in_err-at
+returns-in_err-at c =
+    let fine = judged _ _ _ _ (sym c.judge_entry.ensures ∙ c.in_ok-pair.was) in
+    missed _ _ _ _ _ _ _ (drop_first c.args.self.now _ _ _ _ _ fine c.find.ensures refl)
+    (sym c.ok_or.ensures.value ∙ c.in_err-at.was) c.from_residual-in_err-at.ensures.1
 
 pub remove-requires : goal.remove-requires
 remove-requires c =
-    let room = c.args.self.now.room in
+    let fine = judged _ _ _ _ (sym c.judge_entry.ensures ∙ c.in_ok-pair.was) in
     record {
-      stands = stands c.args.self.now c.args.i c.args.j _ _ c.find_entry.ensures c.in-Some.is;
-      fitting = omega arith;
+      stands =
+          stands c.args.self.now.store _ _ _ _ _ fine c.find.ensures
+          (c.ok_or.ensures.ok_part ∙ ap result_ok c.in_ok-at.was);
     }
-
-pub invariant_of-self : goal.invariant_of-self
-invariant_of-self c =
-    removed_kept c.args.self.now _ c.args.i c.args.j _ _ c.find_entry.ensures c.in-Some.is
-    c.remove.ensures
 
 pub returns : goal.returns
 returns c =
-    let none = met_none _ tt (sym c.judge_entry.ensures ∙ c.in_ok-judge_entry.was) in
-    counted _ _ _ (drop_first c.args.self.now c.args.i c.args.j _ true none c.find_entry.ensures
-    (ap is_some c.in-Some.is))
-    (removed_means c.args.self.now _ c.args.i c.args.j _ _ c.find_entry.ensures c.in-Some.is
-    c.remove.ensures)
+    let fine = judged _ _ _ _ (sym c.judge_entry.ensures ∙ c.in_ok-pair.was) in
+    let at = c.ok_or.ensures.ok_part ∙ ap result_ok c.in_ok-at.was in
+    counted _ _ _ (drop_first c.args.self.now _ _ _ _ true fine c.find.ensures (ap is_some at))
+    (drop_turned c.args.self.now.store _ _ _ _ _ _ fine c.find.ensures at c.remove.ensures)

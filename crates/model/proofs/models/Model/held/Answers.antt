@@ -1,7 +1,5 @@
-use Rattle.model.proofs.Turns.{count_is, none_held}
+use Rattle.model.proofs.Turns.{none_held}
 use Rattle.model.proofs.models.Model.held.Goals as goal
 
-pub returns : goal.returns
-returns c =
-    let m = c.args.self.now in
-    record { count = count_is m.store m.room; fits = m.room; empty = none_held m }
+pub returns-clause-empty : goal.returns-clause-empty
+returns-clause-empty c = none_held c.args.self.now.store
