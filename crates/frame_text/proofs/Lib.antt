@@ -1,5 +1,6 @@
 pub mod Bytes
 pub mod Splits
+pub mod FieldSplits
 pub mod Filling
 pub mod Lengths
 pub mod Stages

@@ -12,7 +12,7 @@ use Rattle.frame_text.specs.Fields.{before, fields, onto_first, is_number}
 use Rattle.frame_text.specs.Parts.{second, third, one_field, two_fields, two_numbers}
 use Rattle.frame_text.specs.Records.{Part, Statement, puts, drops, part, counted, numbered, operands, by_fields}
 use Rattle.frame_text.specs.Records.{kind_of, kinded, by_count, by_kind, by_letter, reading}
-use Rattle.frame_text.proofs.Splits.{fields_parted, fields_last}
+use Rattle.frame_text.proofs.FieldSplits.{fields_parted, fields_last}
 
 -- fields, by the first comma
 pub only_field : (line number : ℕ) (bs : List ℕ) → before 44 bs ≡ length bs →
