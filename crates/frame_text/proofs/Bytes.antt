@@ -1,28 +1,10 @@
--- A test of every byte, the bytes before a mark and the number that digits write, one byte on.
+-- The digits of a number, one by one.
 use Rattle.std.proofs.Common.{◌≡◌, ℕ, zero, suc, ◌+◌, ◌-◌, ◌*◌, ◌^◌, ◌<◌, ◌≤◌, Bool, true, false, cond, ◌&&◌, leb, List, [], ◌∷◌, length, get_or, drop, sym, ap, ◌∙◌, add-one, arith, lit<}
 use native.Mathlib.Nat.{pow-succ', pow-le-pow_right}
 use Rattle.std.proofs.lemmas.List.{at_drop_more}
 use Rattle.std.proofs.lemmas.Bool.{eq-eqb, ne_eqb, and_parts, leb-true}
 use Rattle.std.specs.Char.{is_ascii_digit}
-use Rattle.frame_text.specs.Fields.{before, every, read_on}
-
-pub every_stops : (test : ℕ → Bool) (bs : List ℕ) (i : ℕ) → i < length bs →
-    test (get_or bs i 0) ≡ false → every test (drop i bs) ≡ false
-every_stops test bs i l fails = at_drop_more (every test) bs i 0 l ∙ ap (λ t. t && every test (drop (i + 1) bs)) fails
-
-pub every_more : (test : ℕ → Bool) (bs : List ℕ) (i : ℕ) → i < length bs →
-    test (get_or bs i 0) ≡ true → every test (drop i bs) ≡ every test (drop (i + 1) bs)
-every_more test bs i l passes = at_drop_more (every test) bs i 0 l ∙ ap (λ t. t && every test (drop (i + 1) bs)) passes
-
-pub before_stops : (mark : ℕ) (bs : List ℕ) (i : ℕ) → i < length bs →
-    get_or bs i 0 ≡ mark → before mark (drop i bs) ≡ 0
-before_stops mark bs i l e = at_drop_more (before mark) bs i 0 l ∙
-    ap (λ t. cond t 0 (suc (before mark (drop (i + 1) bs)))) (eq-eqb (get_or bs i 0) mark e)
-
-pub before_more : (mark : ℕ) (bs : List ℕ) (i : ℕ) → i < length bs →
-    (get_or bs i 0 ≡ mark → ⊥) → before mark (drop i bs) ≡ suc (before mark (drop (i + 1) bs))
-before_more mark bs i l ne = at_drop_more (before mark) bs i 0 l ∙
-    ap (λ t. cond t 0 (suc (before mark (drop (i + 1) bs)))) (ne_eqb (get_or bs i 0) mark ne)
+use Rattle.frame_text.specs.Fields.{every, read_on}
 
 pub every_at : (test : ℕ → Bool) (bs : List ℕ) (i : ℕ) → i < length bs →
     every test bs ≡ true → test (get_or bs i 0) ≡ true

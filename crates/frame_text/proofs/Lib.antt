@@ -1,8 +1,8 @@
 pub mod Bytes
 pub mod Splits
-pub mod FieldSplits
 pub mod Filling
 pub mod Lengths
+pub mod Taken
 pub mod Stages
 pub mod Order
 pub mod Numerals
