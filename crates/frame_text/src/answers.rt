@@ -1,6 +1,6 @@
 // Answers: what is said of a line, and the block of 32 bytes that says it.
 ghost use Rattle.std.specs.Prelude.{◌≡◌, ◌≤◌, [], ◌∷◌, length, decimal};
-ghost use Rattle.frame_text.specs.Answers.{letter_of, then, text_of, block_of, name_length, whole_block};
+ghost use Rattle.frame_text.specs.Answers.{then, text_of, block_of, name_length, whole_block};
 ghost use Rattle.frame_text.specs.Blocks.{Adds, Holds};
 
 use crate::faults::Report;
@@ -87,19 +87,6 @@ impl Block {
     }
 }
 
-fn letter(question: Question) -> u8
-    ensures { result ≡ letter_of question }
-{
-    match question {
-        Question::Parent => b'U',
-        Question::Place => b'O',
-        Question::FirstPlace => b'F',
-        Question::Height => b'H',
-        Question::RowCount => b'R',
-        Question::ColumnCount => b'C',
-    }
-}
-
 impl<'a> Answer<'a> {
     // The answer's text, an LF, and zeros. Each answer with a name of at most 16 bytes stands there whole.
     pub fn block(&self) -> [u8; 32]
@@ -142,7 +129,7 @@ impl<'a> Answer<'a> {
                 vertex,
                 number,
             } => {
-                block.push(letter(question));
+                block.push(u8::from(question));
                 block.push_then(vertex as u64);
                 block.push_then(number as u64);
             }

@@ -21,6 +21,16 @@ pub enum Question {
     ColumnCount = b'C' as isize,
 }
 
+impl From<Question> for u8 {
+    ghost use Rattle.frame_text.specs.Answers.{letter_of};
+
+    ghost from_gives = { λ question r. r ≡ letter_of question };
+
+    fn from(question: Question) -> u8 {
+        question as u8
+    }
+}
+
 // The ten kinds of line, the six questions as one.
 #[derive(Clone, Copy)]
 pub enum Kind {

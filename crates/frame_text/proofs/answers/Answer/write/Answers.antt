@@ -42,7 +42,7 @@ returns-in-Analysed c = record {
 pub returns-in-Asked : goal.returns-in-Asked
 returns-in-Asked c = record {
   adds = adds_same _ _ _ _
-      (ap (λ b. b ∷ then c.in-Asked.vertex ++ then c.in-Asked.number) c.letter.ensures ∙
+      (ap (λ b. b ∷ then c.in-Asked.vertex ++ then c.in-Asked.number) c.from.ensures ∙
       sym (ap text_of c.in-Asked.is))
       (adds_then _ _ _ _ _ (adds_then _ _ _ _ _ c.push-in-Asked.ensures
       c.push_then-in-Asked.ensures)
