@@ -1,4 +1,3 @@
-pub mod Bytes
 pub mod Splits
 pub mod Filling
 pub mod Lengths
@@ -6,4 +5,5 @@ pub mod Taken
 pub mod Stages
 pub mod Order
 pub mod Numerals
+pub mod Bytes
 pub mod Joins

@@ -53,11 +53,9 @@ fn digits_value(digits: &[u8]) -> u32
     ensures number { result ≡ read_on 0 digits.now }
     ensures bound { result ≤ 99999 }
 {
-    let mut n = 0;
-    for b in digits {
-        n = n * 10 + u32::from(*b - b'0');
-    }
-    n
+    digits
+        .iter()
+        .fold(0, |n, b| n * 10 + u32::from(*b - b'0'))
 }
 
 impl<'a> Field<'a> {
