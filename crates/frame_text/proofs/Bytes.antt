@@ -1,5 +1,5 @@
 -- The digits of a number, one by one.
-use Rattle.std.proofs.Common.{◌≡◌, ℕ, zero, suc, ◌+◌, ◌-◌, ◌*◌, ◌^◌, ◌<◌, ◌≤◌, Bool, true, ◌&&◌, leb, List, [], ◌∷◌, length, get_or, take, drop, sym, ap, ◌∙◌, subst, arith}
+use Rattle.std.proofs.Common.{◌≡◌, ℕ, zero, suc, ◌^◌, ◌<◌, ◌≤◌, Bool, true, ◌&&◌, leb, List, [], ◌∷◌, length, get_or, take, drop, sym, ap, ◌∙◌, arith}
 use Rattle.std.proofs.lemmas.Bool.{and_parts, leb-true}
 use Rattle.std.proofs.lemmas.List.{take-append-drop, length-take}
 use Rattle.std.proofs.lemmas.List.Folds.{list_all-append}
@@ -19,8 +19,8 @@ pub room : (bs : List ℕ) (i n x : ℕ) → length bs ≤ 5 → every is_ascii_
     n ≡ read_on 0 (take i bs) → x ≡ get_or bs i x → (n < 10000) × (48 ≤ x) × (x ≤ 57)
 room bs i n x few digits within before at =
     let split : every is_ascii_digit (take i bs) && every is_ascii_digit (drop i bs) ≡ true =
-        sym (list_all-append is_ascii_digit (take i bs) (drop i bs)) ∙
-        ap (every is_ascii_digit) (take-append-drop i bs) ∙ digits in
+    sym (list_all-append is_ascii_digit (take i bs) (drop i bs)) ∙
+    ap (every is_ascii_digit) (take-append-drop i bs) ∙ digits in
     let front = (and_parts (every is_ascii_digit (take i bs)) (every is_ascii_digit (drop i bs)) split).0 in
     let digit : is_ascii_digit x ≡ true = ap is_ascii_digit at ∙ every_at is_ascii_digit bs i x within digits in
     let both = and_parts (leb 48 x) (leb x 57) digit in

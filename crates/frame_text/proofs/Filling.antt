@@ -21,8 +21,10 @@ pub adds_byte : {R E : Type 0} (r : Result R E) (a b : Block) (x : ℕ) → (IsO
 adds_byte (Ok u) a b x room more same full t h =
     let few : length (take 32 t) < 32 = subst (λ bs. length bs < 32) h.bytes (room.0 refl) in
     let short = length-take 32 t in let longer = length-append t (x ∷ []) in
-    record { bytes = more ∙ ap (λ bs. bs ++ x ∷ []) (h.bytes ∙ take_all 32 t (omega arith)) ∙
-        sym (take_all 32 (t ++ x ∷ []) (omega arith)) }
+    record {
+      bytes = more ∙ ap (λ bs. bs ++ x ∷ []) (h.bytes ∙ take_all 32 t (omega arith)) ∙
+          sym (take_all 32 (t ++ x ∷ []) (omega arith));
+    }
 adds_byte (Err e) a b x room more same full t h =
     let all : length (take 32 t) ≡ 32 = sym (ap length h.bytes) ∙ full in
     let short = length-take 32 t in

@@ -1,18 +1,18 @@
 -- The stages of a line's reading, as the code takes them.
-use Rattle.std.proofs.Common.{◌≡◌, ℕ, suc, ◌+◌, ◌<◌, ◌≤◌, Bool, true, false, cond, eqb, List, [], ◌∷◌, length, get_or, take, drop, Some, None, Ok, Err, Option, Result, sym, refl, ap, ◌∙◌, inl, inr, add-one, arith}
+use Rattle.std.proofs.Common.{◌≡◌, ℕ, ◌<◌, ◌≤◌, Bool, true, false, cond, eqb, List, [], ◌∷◌, length, get_or, Ok, Err, Result, refl, ap, arith}
 use Rattle.std.specs.List.{onto_first}
 use Rattle.std.specs.Result.{result_map_both}
-use Rattle.std.proofs.lemmas.Bool.{ne_eqb, le-ltb, cond-false, cases_eq}
+use Rattle.std.proofs.lemmas.Bool.{le-ltb}
 use Rattle.frame_text.specs.declared.faults.FieldFault.{FieldFault}
 use Rattle.frame_text.specs.declared.faults.LineFault.{LineFault}
 use Rattle.frame_text.specs.declared.faults.LineFault.TheVariants as in_line
 use Rattle.frame_text.specs.declared.records.Kind.{Kind}
-use Rattle.frame_text.specs.declared.records.Kind.TheVariants.{Put, Drop, Analyse, Ask}
+use Rattle.frame_text.specs.declared.records.Kind.TheVariants.{Put, Drop, Ask}
 use Rattle.frame_text.specs.declared.records.Question.{Question}
 use Rattle.frame_text.specs.Fields.{fields, is_number}
 use Rattle.frame_text.specs.Parts.{second, third, one_field, two_fields, two_numbers}
-use Rattle.frame_text.specs.Records.{Part, Statement, puts, drops, part, counted, numbered, operands, by_fields}
-use Rattle.frame_text.specs.Records.{kind_of, kinded, by_count, by_kind, by_letter, reading}
+use Rattle.frame_text.specs.Records.{Part, Statement, puts, drops, numbered, operands, by_fields}
+use Rattle.frame_text.specs.Records.{by_count, by_letter, reading}
 
 pub some_field : (bs : List ℕ) → 0 < length (fields bs)
 some_field [] = omega arith

@@ -1,5 +1,5 @@
 -- The fields that `split` hands out one by one, and that three after the letter are enough to read a line.
-use Rattle.std.proofs.Common.{◌≡◌, ℕ, suc, Bool, eqb, List, [], ◌∷◌, length, take, drop, slice_get, option_map, Some, None, Option, sym, refl, ap, ◌∙◌, subst, arith}
+use Rattle.std.proofs.Common.{◌≡◌, ℕ, suc, Bool, List, [], ◌∷◌, length, take, drop, slice_get, option_map, Some, None, Option, sym, refl, ap, ◌∙◌, subst, arith}
 use Rattle.std.specs.Borrow.{Bor}
 use Rattle.std.specs.Slice.Iter.{split_steps}
 use Rattle.std.specs.declared.slice.Split.{Split}

@@ -53,9 +53,7 @@ fn digits_value(digits: &[u8]) -> u32
     ensures number { result ≡ read_on 0 digits.now }
     ensures bound { result ≤ 99999 }
 {
-    digits
-        .iter()
-        .fold(0, |n, b| n * 10 + u32::from(*b - b'0'))
+    digits.iter().fold(0, |n, b| n * 10 + u32::from(*b - b'0'))
 }
 
 impl<'a> Field<'a> {

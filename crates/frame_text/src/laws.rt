@@ -6,24 +6,20 @@ ghost use Rattle.frame_text.specs.Order.{FirstFaultStands};
 // none after it.
 pub fn lines_join()
     ensures { LinesJoin }
-{
-}
+{}
 
 // The fields of a line, put together with commas, are the line, and no field has a comma in it.
 pub fn fields_join()
     ensures { FieldsJoin }
-{
-}
+{}
 
 // A number field is what is printed of its value, so that an answer repeats it as it stands.
 pub fn numbers_read_back()
     ensures { NumbersReadBack }
-{
-}
+{}
 
 // The fault that a line's reading finds is the first of the list of faults whose condition holds; with none, the
 // line is a record.
 pub fn first_fault_stands()
     ensures { FirstFaultStands }
-{
-}
+{}

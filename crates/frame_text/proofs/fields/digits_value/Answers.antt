@@ -1,5 +1,5 @@
 -- The digits so far write a number under 10,000, so there is room for one more.
-use Rattle.std.proofs.Common.{◌≡◌, ℕ, ◌*◌, ◌+◌, ◌-◌, ◌<◌, ◌≤◌, [], ◌∷◌, length, map, take, sym, ap, refl, ◌∙◌, arith, rules, tests}
+use Rattle.std.proofs.Common.{◌≡◌, ◌*◌, ◌+◌, ◌-◌, ◌<◌, ◌≤◌, [], ◌∷◌, length, map, sym, ap, refl, ◌∙◌, arith, rules, tests}
 use Rattle.std.proofs.lemmas.Fn.{serves_by}
 use Rattle.std.proofs.lemmas.List.{map-append}
 use Rattle.std.proofs.lemmas.List.Sums.{fold-append}
@@ -24,7 +24,7 @@ fold-requires-clause-callable c =
     (λ xs t q x u ys step so_far.
     let here = YieldsList-turn all xs t ys _ u x refl step in
     let free = room bytes (length xs) q.1 x.now c.requires.few c.requires.digits here.0
-        (so_far ∙ ap (read_on 0) (YieldsList-so_far all xs t ys)) here.1 in
+    (so_far ∙ ap (read_on 0) (YieldsList-so_far all xs t ys)) here.1 in
     let below : q.1 < 10000 = free.0 in let from : 48 ≤ x.now = free.1 in let to : x.now ≤ 57 = free.2 in
     search (rules, arith))
 

@@ -11,7 +11,7 @@ returns-in_default-clause-steps c =
     let file = c.args.self.now.file.now in let at = c.args.self.now.at in
     let rest = take_rest file at in
     let place = position_from_yields_List lf _ _ c.position.result c.position.ensures.ran
-        (YieldsList-from_slice (take (length file - at) (drop at file)) (cc)) (λ x b q k. search (rules, tests)) in (
+    (YieldsList-from_slice (take (length file - at) (drop at file)) (cc)) (λ x b q k. search (rules, tests)) in (
       reads_last file _ at rest (λ none. search (rules, c.if-is_empty.false)) (sym place ∙ c.in_default.is),
       refl,
       refl,
@@ -22,7 +22,7 @@ returns-clause-steps c =
     let file = c.args.self.now.file.now in let at = c.args.self.now.at in
     let rest = take_rest file at in
     let place = position_from_yields_List lf _ _ c.position.result c.position.ensures.ran
-        (YieldsList-from_slice (take (length file - at) (drop at file)) (cc)) (λ x b q k. search (rules, tests)) in (
+    (YieldsList-from_slice (take (length file - at) (drop at file)) (cc)) (λ x b q k. search (rules, tests)) in (
       reads_line file _ at c.in-Some.end rest (sym place ∙ c.in-Some.is),
       refl,
       refl,
