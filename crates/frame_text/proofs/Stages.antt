@@ -1,17 +1,19 @@
 -- The stages of a line's reading, as the code takes them.
-use Rattle.std.proofs.Common.{◌≡◌, ℕ, ◌<◌, ◌≤◌, Bool, true, false, cond, eqb, List, [], ◌∷◌, length, get_or, Ok, Err, Result, refl, ap, arith}
+use Rattle.std.proofs.Common.{◌≡◌, ℕ, ◌<◌, ◌≤◌, Bool, true, false, cond, eqb, List, [], ◌∷◌, length, get_or, Ok, Err, IsOkAnd, MatchResult, Result, refl, ap, arith}
 use Rattle.std.specs.List.{onto_first}
 use Rattle.std.specs.Result.{result_map_both}
 use Rattle.std.proofs.lemmas.Bool.{le-ltb}
 use Rattle.frame_text.specs.declared.faults.FieldFault.{FieldFault}
 use Rattle.frame_text.specs.declared.faults.LineFault.{LineFault}
 use Rattle.frame_text.specs.declared.faults.LineFault.TheVariants as in_line
+use Rattle.frame_text.specs.declared.fields.Field.{Field}
 use Rattle.frame_text.specs.declared.records.Kind.{Kind}
 use Rattle.frame_text.specs.declared.records.Kind.TheVariants.{Put, Drop, Ask}
 use Rattle.frame_text.specs.declared.records.Question.{Question}
+use Rattle.frame_text.specs.declared.records.Record.{Record}
 use Rattle.frame_text.specs.Fields.{fields, is_number}
-use Rattle.frame_text.specs.Parts.{second, third, one_field, two_fields, two_numbers}
-use Rattle.frame_text.specs.Records.{Part, Statement, puts, drops, numbered, operands, by_fields}
+use Rattle.frame_text.specs.Parts.{pair_of, second, third, one_field, two_fields, two_numbers}
+use Rattle.frame_text.specs.Records.{Part, Statement, part_of, statement_of, stated, puts, drops, numbered, operands, by_fields}
 use Rattle.frame_text.specs.Records.{by_count, by_letter, reading}
 
 pub some_field : (bs : List ℕ) → 0 < length (fields bs)
@@ -82,6 +84,14 @@ through f false b c x fa fb fc = refl
 
 abbrev pub with_two : (Part → Part → Statement) → Result (Part × Part) LineFault → Result Statement LineFault
 with_two f r = result_map_both (λ (ps : Part × Part). f ps.0 ps.1) (λ fault. fault) r
+
+-- a record made of two fields, where they are there
+pub made_of : (f : Part → Part → Statement) (r : Result (Field × Field) LineFault) (m : Result Record LineFault) →
+    MatchResult r (λ fs. IsOkAnd m (λ x. statement_of x ≡ f (part_of fs.0) (part_of fs.1))) (λ e. m ≡ Err e) →
+    stated m ≡ with_two f (pair_of r)
+made_of f (Ok fs) (Ok x) e = ap (λ s. Ok s) e
+made_of f (Ok fs) (Err x) e = absurd e
+made_of f (Err fault) m e = ap stated e
 
 pub puts_two : (line : ℕ) (fs : List (List ℕ)) → with_two puts (two_numbers line fs) ≡ by_count line Put fs
 puts_two line fs = through _ (eqb (length fs) 2) (is_number (get_or fs 0 [])) (is_number (get_or fs 1 [])) _ _ _ _

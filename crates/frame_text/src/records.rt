@@ -151,18 +151,9 @@ impl<'a> Operands<'a> {
     {
         match kind {
             Kind::Make => self.make(),
-            Kind::Put => {
-                let (i, j) = self.two_numbers()?;
-                Ok(Record::Put { i, j })
-            }
-            Kind::Drop => {
-                let (i, j) = self.two_numbers()?;
-                Ok(Record::Drop { i, j })
-            }
-            Kind::Analyse => {
-                self.none()?;
-                Ok(Record::Analyse)
-            }
+            Kind::Put => self.two_numbers().map(|(i, j)| Record::Put { i, j }),
+            Kind::Drop => self.two_numbers().map(|(i, j)| Record::Drop { i, j }),
+            Kind::Analyse => self.none().map(|()| Record::Analyse),
             Kind::Ask(question) => self.ask(question),
         }
     }
