@@ -46,16 +46,16 @@ lines_ended (b ∷ bs) found =
     lines (drop (cond (not v) (1 + position_or_len lf bs) 0 + 1) (b ∷ bs)))
     [ true ↦ λ _. refl | false ↦ λ later. rw (one, two) (ap (onto_line b) (lines_ended bs (omega arith))) ] found
 
-lines_last : (b : ℕ) (bs : List ℕ) → position_or_len lf (b ∷ bs) ≡ length (b ∷ bs) → lines (b ∷ bs) ≡ ((b ∷ bs), false) ∷ []
+lines_last : (b : ℕ) (bs : List ℕ) → position_or_len lf (b ∷ bs) ≡ length (b ∷ bs) →
+    lines (b ∷ bs) ≡ ((b ∷ bs), false) ∷ []
 lines_last b [] none =
     elim (eqb b 10) as (λ v. ◌≡◌ {A = ℕ} (cond (not v) 1 0) 1 →
     cond v (([], true) ∷ lines []) (onto_line b (lines [])) ≡ ((b ∷ []), false) ∷ [])
     [ true ↦ λ (e : ◌≡◌ {A = ℕ} 0 1). absurd (omega (arith, e)) | false ↦ λ _. refl ] none
 lines_last b (c ∷ bs) none =
-    let k : ℕ = position_or_len lf (c ∷ bs) in
     elim (eqb b 10) as (λ v. cond (not v) (1 + position_or_len lf (c ∷ bs)) 0 ≡ suc (length (c ∷ bs)) →
     cond v (([], true) ∷ lines (c ∷ bs)) (onto_line b (lines (c ∷ bs))) ≡ ((b ∷ c ∷ bs), false) ∷ [])
-    [ true ↦ λ (e : 0 ≡ suc (length (c ∷ bs))). absurd (omega arith) | false ↦ λ (later : 1 + position_or_len lf (c ∷ bs) ≡ suc (length (c ∷ bs))). ap (onto_line b) (lines_last c bs (omega arith)) ] none
+    [ true ↦ λ e. absurd (omega arith) | false ↦ λ later. ap (onto_line b) (lines_last c bs (omega arith)) ] none
 
 -- a reader at `at`, with `rest` to come: before a last line that has no LF, and before a line that has one
 pub reads_last : (file rest : List ℕ) (at : ℕ) → rest ≡ drop at file → (length rest ≡ 0 → ⊥) →
@@ -69,7 +69,6 @@ pub reads_line : (file rest : List ℕ) (at n : ℕ) → rest ≡ drop at file �
     lines (drop at file) ≡ (take n rest, true) ∷ lines (drop (at + (n + 1)) file)
 reads_line file rest at n is found =
     let place = placed lf rest n found in
-    let k : ℕ = position_or_len lf rest in
     ap lines (sym is) ∙ lines_ended rest (omega arith) ∙
     ap (λ k. (take k rest, true) ∷ lines (drop (k + 1) rest)) (sym place.0) ∙
     ap (λ r. (take n rest, true) ∷ lines r) (ap (drop (n + 1)) is ∙ drop-drop (n + 1) at file)

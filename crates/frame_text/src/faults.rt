@@ -27,6 +27,7 @@ pub enum LineFault {
 }
 
 // What is answered of a fault: its line, its field (0 for the whole line), and its number in the list of faults.
+// They are numbers, as the answer prints them.
 #[derive(Clone, Copy, PartialEq, Eq)]
 pub struct Report {
     pub line: usize,

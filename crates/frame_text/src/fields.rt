@@ -20,7 +20,7 @@ pub struct Field<'a> {
 fn is_name_byte(b: u8) -> bool
     ensures { result ≡ name_byte b }
 {
-    b.is_ascii_uppercase() | b.is_ascii_digit() | (b == b'-')
+    matches!(b, b'A'..=b'Z' | b'0'..=b'9' | b'-')
 }
 
 fn is_name(bytes: &[u8]) -> bool
@@ -32,10 +32,7 @@ fn is_name(bytes: &[u8]) -> bool
 fn is_padded(digits: &[u8]) -> bool
     ensures { result ≡ padded digits.now }
 {
-    match digits {
-        [b'0', _, ..] => true,
-        _ => false,
-    }
+    matches!(digits, [b'0', _, ..])
 }
 
 fn is_numeral(bytes: &[u8]) -> bool

@@ -31,4 +31,5 @@ fold-requires-clause-callable c =
 pub returns-clause-bound : goal.returns-clause-bound
 returns-clause-bound c =
     let number : c.fold.result ≡ read_on 0 c.args.digits.now = search rules in
-    let under = digits_value_short own c.args.digits.now 5 c.requires.digits c.requires.few in omega (arith, number, under)
+    let under = digits_value_short own c.args.digits.now 5 c.requires.digits c.requires.few in
+    omega (arith, number, under)
