@@ -55,7 +55,7 @@ impl RunFault {
                 field: 0,
                 number: 1,
             },
-            RunFault::Line(cause) => cause.report(),
+            RunFault::Line(cause) => Report::from(cause),
             RunFault::OutOfPlace { line } => Report {
                 line,
                 field: 1,

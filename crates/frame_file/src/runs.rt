@@ -220,8 +220,7 @@ pub fn run_file<S: AncestorSets, A: Answers>(
         answers.take(&block);
         return;
     }
-    let mut reader = FrameReader::new(file);
-    while let Some(line) = reader.next_line() {
+    for line in FrameReader::new(file) {
         let block = answer_line(line, model, sets);
         answers.take(&block);
     }

@@ -1,7 +1,8 @@
 -- Lines and fields, put together again.
 use Rattle.std.proofs.Common.{◌≡◌, ℕ, ◌<◌, Bool, true, false, eqb, List, [], ◌∷◌, length, sym, refl, ap, ◌∙◌, inl, inr, arith}
+use Rattle.std.specs.List.{onto_first}
 use Rattle.std.proofs.lemmas.Bool.{eqb-true, cases_Bool}
-use Rattle.frame_text.specs.Fields.{fields, onto_first}
+use Rattle.frame_text.specs.Fields.{fields}
 use Rattle.frame_text.specs.Lines.{lines, onto_line}
 use Rattle.frame_text.proofs.Stages.{some_field}
 use Rattle.frame_text.specs.Laws.{unlines, sound, commas, comma_free, LinesJoin, FieldsJoin}

@@ -1,8 +1,9 @@
-pub mod Bytes
 pub mod Splits
 pub mod Filling
 pub mod Lengths
+pub mod Taken
 pub mod Stages
 pub mod Order
 pub mod Numerals
+pub mod Bytes
 pub mod Joins

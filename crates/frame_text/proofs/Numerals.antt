@@ -8,7 +8,7 @@ use Rattle.std.proofs.lemmas.Bool.{and_parts, not-true, leb-true, eqb-false, con
 use Rattle.frame_text.specs.Fields.{every, padded, is_number, read_on}
 use Rattle.frame_text.specs.Laws.{NumbersReadBack}
 
-own : IsNumeralModel (λ ds. every is_ascii_digit ds ≡ true) (read_on 0)
+pub own : IsNumeralModel (λ ds. every is_ascii_digit ds ≡ true) (read_on 0)
 own = numerals_by_fold _ (search rules) read_on (search rules)
 
 unpadded : (ds : List ℕ) → padded ds ≡ false → get_or ds 0 0 ≡ 48 → length ds ≡ 1

@@ -1,23 +1,20 @@
 -- The stages of a line's reading, as the code takes them.
-use Rattle.std.proofs.Common.{◌≡◌, ℕ, suc, ◌+◌, ◌<◌, ◌≤◌, Bool, true, false, cond, eqb, List, [], ◌∷◌, length, get_or, take, drop, Some, None, Ok, Err, Option, Result, sym, refl, ap, ◌∙◌, inl, inr, add-one, arith}
+use Rattle.std.proofs.Common.{◌≡◌, ℕ, ◌<◌, ◌≤◌, Bool, true, false, cond, eqb, List, [], ◌∷◌, length, get_or, Ok, Err, IsOkAnd, MatchResult, Result, refl, ap, arith}
+use Rattle.std.specs.List.{onto_first}
 use Rattle.std.specs.Result.{result_map_both}
-use Rattle.std.proofs.lemmas.Bool.{ne_eqb, le-ltb, cond-false, cases_eq}
+use Rattle.std.proofs.lemmas.Bool.{le-ltb}
 use Rattle.frame_text.specs.declared.faults.FieldFault.{FieldFault}
 use Rattle.frame_text.specs.declared.faults.LineFault.{LineFault}
 use Rattle.frame_text.specs.declared.faults.LineFault.TheVariants as in_line
+use Rattle.frame_text.specs.declared.fields.Field.{Field}
 use Rattle.frame_text.specs.declared.records.Kind.{Kind}
-use Rattle.frame_text.specs.declared.records.Kind.TheVariants.{Put, Drop, Analyse, Ask}
+use Rattle.frame_text.specs.declared.records.Kind.TheVariants.{Put, Drop, Ask}
 use Rattle.frame_text.specs.declared.records.Question.{Question}
-use Rattle.frame_text.specs.Fields.{before, fields, onto_first, is_number}
-use Rattle.frame_text.specs.Parts.{second, third, one_field, two_fields, two_numbers}
-use Rattle.frame_text.specs.Records.{Part, Statement, puts, drops, part, counted, numbered, operands, by_fields}
-use Rattle.frame_text.specs.Records.{kind_of, kinded, by_count, by_kind, by_letter, reading}
-use Rattle.frame_text.proofs.Splits.{fields_parted, fields_last}
-
--- fields, by the first comma
-pub only_field : (line number : ℕ) (bs : List ℕ) → before 44 bs ≡ length bs →
-    Ok (part line number bs) ≡ counted line 1 (fields bs) (Ok (part line number (get_or (fields bs) 0 [])))
-only_field line number bs none = rw (fields_last bs none)
+use Rattle.frame_text.specs.declared.records.Record.{Record}
+use Rattle.frame_text.specs.Fields.{fields, is_number}
+use Rattle.frame_text.specs.Parts.{pair_of, second, third, one_field, two_fields, two_numbers}
+use Rattle.frame_text.specs.Records.{Part, Statement, part_of, statement_of, stated, puts, drops, numbered, operands, by_fields}
+use Rattle.frame_text.specs.Records.{by_count, by_letter, reading}
 
 pub some_field : (bs : List ℕ) → 0 < length (fields bs)
 some_field [] = omega arith
@@ -26,50 +23,18 @@ some_field (b ∷ bs) = elim (eqb b 44) as (λ v. 0 < length (cond v ([] ∷ fie
   | false ↦ elim (fields bs) as (λ fs. 0 < length (onto_first b fs)) [ [] ↦ omega arith | (f ∷ fs) ↦ omega arith ]
 ]
 
-pub more_fields : {X : Type 0} (line : ℕ) (bs : List ℕ) (next : Result X LineFault) → before 44 bs < length bs →
-    Err (in_line.FieldCount line) ≡ counted line 1 (fields bs) next
-more_fields line bs next found =
-    let parted = ap length (fields_parted bs found) in
-    let left = some_field (drop (suc (before 44 bs)) bs) in
-    sym (cond-false (eqb (length (fields bs)) 1) next _ (ne_eqb (length (fields bs)) 1 (λ e. omega arith)))
-
-pub no_second : (line : ℕ) (bs : List ℕ) → before 44 bs ≡ length bs →
-    Err (in_line.FieldCount line) ≡ two_fields line (fields bs)
-no_second line bs none = rw (fields_last bs none)
-
-abbrev beside : Part → Result Part LineFault → Result (Part × Part) LineFault
-beside p r = result_map_both (λ q. (p, q)) (λ fault. fault) r
-
-pub first_of_two : (line : ℕ) (f : List ℕ) (fs : List (List ℕ)) →
-    two_fields line (f ∷ fs) ≡ beside (part line 2 f) (counted line 1 fs (Ok (part line 3 (get_or fs 0 []))))
-first_of_two line f [] = refl
-first_of_two line f (g ∷ []) = refl
-first_of_two line f (g ∷ h ∷ gs) =
-    rw (ne_eqb (suc (suc (suc (length gs)))) 2 (λ e. omega arith), ne_eqb (suc (suc (length gs))) 1 (λ e. omega arith))
-
--- field 2, as the m bytes before the first comma, beside what the rest is read as
-pub two_from_rest : (line : ℕ) (bs rest : List ℕ) (n m : ℕ) (r : Result Part LineFault) →
-    n ≡ before 44 bs → n ≤ length bs → (n ≡ length bs → ⊥) → rest ≡ drop (n + 1) bs → m ≡ n →
-    r ≡ counted line 1 (fields rest) (Ok (part line 3 (get_or (fields rest) 0 []))) →
-    beside (part line 2 (take m bs)) r ≡ two_fields line (fields bs)
-two_from_rest line bs rest n m r place within more is same e =
-    let parted : fields bs ≡ take n bs ∷ fields rest =
-    fields_parted bs (omega arith) ∙ ap (λ k. take k bs ∷ fields (drop (suc k) bs)) (sym place) ∙
-    ap (λ k. take n bs ∷ fields (drop k bs)) (sym (add-one n)) ∙ ap (λ t. take n bs ∷ fields t) (sym is) in
-    rw (same, e, parted) (sym (first_of_two line (take n bs) (fields rest)))
-
 -- a check that passed, and one that failed
-pub passed : {X : Type 0} (test : Bool) (fault : FieldFault) (u : Unit {0}) (next : Result X LineFault) →
-    ◌≡◌ {A = Result (Unit {0}) FieldFault} (Ok u) (cond test (Ok tt) (Err fault)) →
+pub passed : {X Y : Type 0} (test : Bool) (fault : FieldFault) (x y : Y) (next : Result X LineFault) →
+    ◌≡◌ {A = Result Y FieldFault} (Ok x) (cond test (Ok y) (Err fault)) →
     next ≡ cond test next (Err (in_line.Field fault))
-passed true fault u next e = refl
-passed false fault u next e = absurd (let z : ◌≡◌ {A = ℕ} 0 1 = cc in omega arith)
+passed true fault x y next e = refl
+passed false fault x y next e = absurd (let z : ◌≡◌ {A = ℕ} 0 1 = cc in omega arith)
 
-pub failed : {X : Type 0} (test : Bool) (fault f : FieldFault) (next : Result X LineFault) →
-    ◌≡◌ {A = Result (Unit {0}) FieldFault} (Err f) (cond test (Ok tt) (Err fault)) →
+pub failed : {X Y : Type 0} (test : Bool) (fault f : FieldFault) (y : Y) (next : Result X LineFault) →
+    ◌≡◌ {A = Result Y FieldFault} (Err f) (cond test (Ok y) (Err fault)) →
     Err (in_line.Field f) ≡ cond test next (Err (in_line.Field fault))
-failed true fault f next e = absurd (let z : ◌≡◌ {A = ℕ} 0 1 = cc in omega arith)
-failed false fault f next e = cc
+failed true fault f y next e = absurd (let z : ◌≡◌ {A = ℕ} 0 1 = cc in omega arith)
+failed false fault f y next e = cc
 
 -- the one field, and the two fields, at hand
 one_is : {X : Type 0} (test : Bool) (p s : X) (fault : LineFault) →
@@ -120,58 +85,19 @@ through f false b c x fa fb fc = refl
 abbrev pub with_two : (Part → Part → Statement) → Result (Part × Part) LineFault → Result Statement LineFault
 with_two f r = result_map_both (λ (ps : Part × Part). f ps.0 ps.1) (λ fault. fault) r
 
+-- a record made of two fields, where they are there
+pub made_of : (f : Part → Part → Statement) (r : Result (Field × Field) LineFault) (m : Result Record LineFault) →
+    MatchResult r (λ fs. IsOkAnd m (λ x. statement_of x ≡ f (part_of fs.0) (part_of fs.1))) (λ e. m ≡ Err e) →
+    stated m ≡ with_two f (pair_of r)
+made_of f (Ok fs) (Ok x) e = ap (λ s. Ok s) e
+made_of f (Ok fs) (Err x) e = absurd e
+made_of f (Err fault) m e = ap stated e
+
 pub puts_two : (line : ℕ) (fs : List (List ℕ)) → with_two puts (two_numbers line fs) ≡ by_count line Put fs
 puts_two line fs = through _ (eqb (length fs) 2) (is_number (get_or fs 0 [])) (is_number (get_or fs 1 [])) _ _ _ _
 
 pub drops_two : (line : ℕ) (fs : List (List ℕ)) → with_two drops (two_numbers line fs) ≡ by_count line Drop fs
 drops_two line fs = through _ (eqb (length fs) 2) (is_number (get_or fs 0 [])) (is_number (get_or fs 1 [])) _ _ _ _
-
-pub kind_is : (line : ℕ) (o : Option Kind) (k : Kind) → Ok k ≡ kinded line o → o ≡ Some k
-kind_is line None k e = absurd (let z : ◌≡◌ {A = ℕ} 0 1 = cc in omega arith)
-kind_is line (Some j) k e = cc
-
--- what a kind's letter leads to
-pub at_kind : (line letter : ℕ) (k j : Kind) (fs : List (List ℕ)) → Ok j ≡ kinded line (kind_of letter) → j ≡ k →
-    by_count line k fs ≡ by_kind line (kind_of letter) fs
-at_kind line letter k j fs e is =
-    sym (ap (λ o. by_kind line o fs) (kind_is line (kind_of letter) j e ∙ ap (λ i. Some i) is))
-
-pub analyse_more : (line : ℕ) (bs : List ℕ) → Err (in_line.FieldCount line) ≡ by_count line Analyse (fields bs)
-analyse_more line bs =
-    let left = some_field bs in
-    sym (cond-false (eqb (length (fields bs)) 0) _ _ (ne_eqb (length (fields bs)) 0 (λ e. omega arith)))
-
--- a line by its first bytes; where the letter is itself a comma, field 1 is empty
-first_byte : (line b : ℕ) (fs gs : List (List ℕ)) →
-    by_kind line (kind_of b) fs ≡ by_letter line (cond (eqb b 44) ([] ∷ gs) ((b ∷ []) ∷ fs))
-first_byte line b fs gs = elim (cases_eq b 44) [ inl e ↦ rw e | inr ne ↦ rw (ne_eqb b 44 ne) ]
-
-pub letter_alone : (line : ℕ) (bs : List ℕ) → length bs ≡ 1 →
-    by_kind line (kind_of (get_or bs 0 0)) [] ≡ by_letter line (fields bs)
-letter_alone line [] one = absurd (omega arith)
-letter_alone line (b ∷ c ∷ bs) one = absurd (omega arith)
-letter_alone line (b ∷ []) one = first_byte line b [] ([] ∷ [])
-
-pub letter_comma : (line : ℕ) (bs rest : List ℕ) → rest ≡ drop 2 bs → 2 ≤ length bs → get_or bs 1 0 ≡ 44 →
-    by_kind line (kind_of (get_or bs 0 0)) (fields rest) ≡ by_letter line (fields bs)
-letter_comma line [] rest is long comma = absurd (omega arith)
-letter_comma line (b ∷ []) rest is long comma = absurd (omega arith)
-letter_comma line (b ∷ c ∷ bs) rest is long comma = rw (is, comma) (first_byte line b (fields bs) ([] ∷ fields bs))
-
-two_bytes : (line b c : ℕ) (fs : List (List ℕ)) →
-    Err (in_line.Kind line) ≡ by_letter line (onto_first b (onto_first c fs))
-two_bytes line b c [] = refl
-two_bytes line b c (f ∷ fs) = refl
-
-pub no_letter : (line : ℕ) (bs : List ℕ) → (length bs ≡ 1 → ⊥) → (2 ≤ length bs → get_or bs 1 0 ≡ 44 → ⊥) →
-    Err (in_line.Kind line) ≡ by_letter line (fields bs)
-no_letter line [] long other = refl
-no_letter line (b ∷ []) long other = absurd (long refl)
-no_letter line (b ∷ c ∷ bs) long other =
-    rw (ne_eqb c 44 (other (omega arith)))
-    (elim (eqb b 44) as (λ v. Err (in_line.Kind line) ≡
-    by_letter line (cond v ([] ∷ onto_first c (fields bs)) (onto_first b (onto_first c (fields bs)))))
-    [ true ↦ refl | false ↦ two_bytes line b c (fields bs) ])
 
 pub whole_line : (line : ℕ) (bs : List ℕ) (ended : Bool) → length bs ≤ 64 → ended ≡ true →
     by_letter line (fields bs) ≡ reading line bs ended

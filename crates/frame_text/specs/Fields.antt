@@ -1,26 +1,15 @@
 -- The fields of a line, which every comma parts, and what a name and a number are.
-use Rattle.std.specs.Prelude.{ℕ, suc, ◌+◌, ◌-◌, ◌*◌, Bool, true, false, cond, not, ◌&&◌, ◌||◌, List, [], ◌∷◌, length, ◌==◌}
+use Rattle.std.specs.Prelude.{ℕ, ◌+◌, ◌-◌, ◌*◌, Bool, false, cond, not, ◌&&◌, ◌||◌, List, [], ◌∷◌, length, fold, ◌==◌}
 use Rattle.std.specs.Char.{is_ascii_digit, is_ascii_uppercase}
 use Rattle.std.specs.Int.{is_in_range}
-
--- how many bytes stand before the first b, or all
-abbrev pub before : ℕ → List ℕ → ℕ
-before b [] = 0
-before b (c ∷ cs) = cond (c == b) 0 (suc (before b cs))
-
--- b put before the first of the fields
-abbrev pub onto_first : ℕ → List (List ℕ) → List (List ℕ)
-onto_first b [] = (b ∷ []) ∷ []
-onto_first b (f ∷ fs) = (b ∷ f) ∷ fs
+use Rattle.std.specs.List.{list_all, slice_split}
 
 -- the parts between commas (44), of which there is always one
 abbrev pub fields : List ℕ → List (List ℕ)
-fields [] = [] ∷ []
-fields (b ∷ bs) = cond (b == 44) ([] ∷ fields bs) (onto_first b (fields bs))
+fields bs = slice_split (λ b. b == 44) bs
 
 abbrev pub every : (ℕ → Bool) → List ℕ → Bool
-every test [] = true
-every test (b ∷ bs) = test b && every test bs
+every test bs = list_all test bs
 
 -- A to Z, 0 to 9, hyphen
 abbrev pub name_byte : ℕ → Bool
@@ -41,8 +30,7 @@ is_number bs = is_in_range 1 5 (length bs) && (every is_ascii_digit bs && not (p
 
 -- the number that digits write after those that write n
 abbrev pub read_on : ℕ → List ℕ → ℕ
-read_on n [] = n
-read_on n (b ∷ bs) = read_on (n * 10 + (b - 48)) bs
+read_on n bs = fold (λ m b. m * 10 + (b - 48)) n bs
 
 -- the number that a field writes; 0 where it writes none
 abbrev pub value_of : List ℕ → ℕ

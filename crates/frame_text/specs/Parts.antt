@@ -1,9 +1,12 @@
 -- The fields after a line's letter, as the code takes them: one, two, or two numbers.
-use Rattle.std.specs.Prelude.{ℕ, List, [], Ok, Result, slice_index_or}
+use Rattle.std.specs.Prelude.{ℕ, List, [], ◌∷◌, Some, None, Ok, Option, Result, slice_index_or}
+use Rattle.std.specs.Borrow.{Bor}
 use Rattle.std.specs.Result.{result_map_both}
 use Rattle.frame_text.specs.declared.faults.LineFault.{LineFault}
 use Rattle.frame_text.specs.declared.fields.Field.{Field}
-use Rattle.frame_text.specs.Records.{Part, part, part_of, counted, numbered}
+use Rattle.frame_text.specs.declared.records.Kind.{Kind}
+use Rattle.frame_text.specs.declared.records.Operands.{Operands}
+use Rattle.frame_text.specs.Records.{Part, part, part_of, letter, counted, numbered}
 
 abbrev pub one_of : Result Field LineFault → Result Part LineFault
 one_of r = result_map_both part_of (λ fault. fault) r
@@ -26,3 +29,16 @@ two_fields line rest = counted line 2 rest (Ok (second line rest, third line res
 abbrev pub two_numbers : ℕ → List (List ℕ) → Result (Part × Part) LineFault
 two_numbers line rest = counted line 2 rest
     (numbered (second line rest) (numbered (third line rest) (Ok (second line rest, third line rest))))
+
+-- the kind of a line by its first field, if there is one
+abbrev pub kind_in : Option (Bor (List ℕ)) → Option Kind
+kind_in None = None
+kind_in (Some f) = letter f.now
+
+-- the fields taken of a line, with no more after the first that is missing
+abbrev pub before_fields : Option (Bor (List ℕ)) → List (List ℕ) → List (List ℕ)
+before_fields None fs = []
+before_fields (Some f) fs = f.now ∷ fs
+
+abbrev pub at_hand : Operands → List (List ℕ)
+at_hand o = before_fields o.second (before_fields o.third (before_fields o.fourth []))

@@ -1,10 +1,12 @@
 // Answers: what is said of a line, and the block of 32 bytes that says it.
-ghost use Rattle.std.specs.Prelude.{◌≡◌, ◌≤◌, [], ◌∷◌, length, decimal};
-ghost use Rattle.frame_text.specs.Answers.{letter_of, then, text_of, block_of, name_length, whole_block};
+ghost use Rattle.std.specs.Prelude.{◌≡◌, ◌≤◌, ℕ, List, [], length};
+ghost use Rattle.frame_text.specs.Answers.{then, text_of, block_of, filled, name_length, whole_block};
 ghost use Rattle.frame_text.specs.Blocks.{Adds, Holds};
 
 use crate::faults::Report;
 use crate::records::Question;
+use arrayvec::ArrayVec;
+use itoa::Buffer;
 
 // What is answered to one line.
 #[derive(Clone, Copy)]
@@ -32,11 +34,10 @@ pub enum Answer<'a> {
     Refused(Report),
 }
 
-// An answer as far as it is written: its bytes, zeros after them, and how many they are. What does not fit is dropped.
+// An answer as far as it is written. What does not fit is dropped.
 #[derive(Drop)]
 struct Block {
-    bytes: [u8; 32],
-    len: usize,
+    text: ArrayVec<u8, 32>,
 }
 
 impl Block {
@@ -44,37 +45,15 @@ impl Block {
         ensures { Holds result [] }
     {
         Block {
-            bytes: [0; 32],
-            len: 0,
+            text: ArrayVec::new(),
         }
     }
 
-    fn push(&mut self, b: u8)
-        ensures { Adds self.old (b ∷ []) self.new }
-    {
-        if self.len < 32 {
-            self.bytes[self.len] = b;
-            self.len += 1;
-        }
-    }
-
-    fn push_bytes(&mut self, bytes: &[u8])
+    fn push(&mut self, bytes: &[u8])
         ensures { Adds self.old bytes.now self.new }
     {
         for b in bytes {
-            self.push(*b);
-        }
-    }
-
-    // The decimal digits of n.
-    fn push_number(&mut self, n: u64)
-        ensures { Adds self.old (decimal n) self.new }
-    {
-        if n < 10 {
-            self.push(b'0' + n as u8);
-        } else {
-            self.push_number(n / 10);
-            self.push(b'0' + (n % 10) as u8);
+            let _ = self.text.try_push(*b);
         }
     }
 
@@ -82,21 +61,17 @@ impl Block {
     fn push_then(&mut self, n: u64)
         ensures { Adds self.old (then n) self.new }
     {
-        self.push(b',');
-        self.push_number(n);
+        self.push(b",");
+        self.push(Buffer::new().format(n).as_bytes());
     }
-}
 
-fn letter(question: Question) -> u8
-    ensures { result ≡ letter_of question }
-{
-    match question {
-        Question::Parent => b'U',
-        Question::Place => b'O',
-        Question::FirstPlace => b'F',
-        Question::Height => b'H',
-        Question::RowCount => b'R',
-        Question::ColumnCount => b'C',
+    // What is written, and zeros after it.
+    fn finish(&self) -> [u8; 32]
+        ensures { (t : List ℕ) → Holds self.now t → result ≡ filled 32 t }
+    {
+        let mut bytes = [0; 32];
+        bytes[..self.text.len()].copy_from_slice(self.text.as_slice());
+        bytes
     }
 }
 
@@ -109,8 +84,8 @@ impl<'a> Answer<'a> {
     {
         let mut block = Block::new();
         self.write(&mut block);
-        block.push(b'\n');
-        block.bytes
+        block.push(b"\n");
+        block.finish()
     }
 
     fn write(&self, block: &mut Block)
@@ -120,21 +95,20 @@ impl<'a> Answer<'a> {
     {
         match *self {
             Answer::Made { name, order } => {
-                block.push(b'M');
-                block.push(b',');
-                block.push_bytes(name);
+                block.push(b"M,");
+                block.push(name);
                 block.push_then(order as u64);
             }
             Answer::Put { held } => {
-                block.push(b'P');
+                block.push(b"P");
                 block.push_then(held as u64);
             }
             Answer::Dropped { held } => {
-                block.push(b'D');
+                block.push(b"D");
                 block.push_then(held as u64);
             }
             Answer::Analysed { total } => {
-                block.push(b'A');
+                block.push(b"A");
                 block.push_then(total);
             }
             Answer::Asked {
@@ -142,12 +116,12 @@ impl<'a> Answer<'a> {
                 vertex,
                 number,
             } => {
-                block.push(letter(question));
+                block.push(&[u8::from(question)]);
                 block.push_then(vertex as u64);
                 block.push_then(number as u64);
             }
             Answer::Refused(report) => {
-                block.push(b'E');
+                block.push(b"E");
                 block.push_then(report.line as u64);
                 block.push_then(report.field as u64);
                 block.push_then(report.number as u64);

@@ -27,7 +27,8 @@ pub enum LineFault {
 }
 
 // What is answered of a fault: its line, its field (0 for the whole line), and its number in the list of faults.
-#[derive(Clone, Copy)]
+// They are numbers, as the answer prints them.
+#[derive(Clone, Copy, PartialEq, Eq)]
 pub struct Report {
     pub line: usize,
     pub field: u8,
@@ -52,27 +53,27 @@ impl From<FieldFault> for LineFault {
     }
 }
 
-impl FieldFault {
-    pub fn report(&self) -> Report
-        ensures { result ≡ field_report self.now }
-    {
-        match *self {
+impl From<FieldFault> for Report {
+    ghost from_gives = { λ fault r. r ≡ field_report fault };
+
+    fn from(fault: FieldFault) -> Report {
+        match fault {
             FieldFault::Name { line, field } => reported(line, field, 5),
             FieldFault::Number { line, field } => reported(line, field, 6),
         }
     }
 }
 
-impl LineFault {
-    pub fn report(&self) -> Report
-        ensures { result ≡ line_report self.now }
-    {
-        match *self {
+impl From<LineFault> for Report {
+    ghost from_gives = { λ fault r. r ≡ line_report fault };
+
+    fn from(fault: LineFault) -> Report {
+        match fault {
             LineFault::TooLong { line } => reported(line, 0, 2),
             LineFault::NoLf { line } => reported(line, 0, 2),
             LineFault::Kind { line } => reported(line, 1, 3),
             LineFault::FieldCount { line } => reported(line, 0, 4),
-            LineFault::Field(inner) => inner.report(),
+            LineFault::Field(inner) => Report::from(inner),
         }
     }
 }

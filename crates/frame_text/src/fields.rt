@@ -1,7 +1,7 @@
 // Fields: the parts of a line between its commas, with where they stand, and the names and numbers that they write.
-ghost use Rattle.std.specs.Prelude.{◌≡◌, ◌≤◌, true, cond, length, Ok, Err};
+ghost use Rattle.std.specs.Prelude.{◌≡◌, ◌≤◌, true, cond, length, Ok, Err, IfOk};
 ghost use Rattle.std.specs.Char.{is_ascii_digit};
-ghost use Rattle.frame_text.specs.Fields.{before, every, name_byte, is_name, padded, is_number, read_on, value_of};
+ghost use Rattle.frame_text.specs.Fields.{every, name_byte, is_name, padded, is_number, read_on, value_of};
 
 use crate::faults::FieldFault;
 
@@ -17,63 +17,30 @@ pub struct Field<'a> {
     pub number: u8,
 }
 
-// How many bytes stand before the first `mark`, or all.
-pub(crate) fn bytes_before(bytes: &[u8], mark: u8) -> usize
-    ensures place { result ≡ before mark bytes.now }
-    ensures within { result ≤ length bytes.now }
-{
-    for (i, b) in bytes.iter().enumerate() {
-        if *b == mark {
-            return i;
-        }
-    }
-    bytes.len()
-}
-
 fn is_name_byte(b: u8) -> bool
     ensures { result ≡ name_byte b }
 {
-    b.is_ascii_uppercase() | b.is_ascii_digit() | (b == b'-')
+    matches!(b, b'A'..=b'Z' | b'0'..=b'9' | b'-')
 }
 
-fn all_name_bytes(bytes: &[u8]) -> bool
-    ensures { result ≡ every name_byte bytes.now }
+fn is_name(bytes: &[u8]) -> bool
+    ensures { result ≡ is_name bytes.now }
 {
-    for b in bytes {
-        if !is_name_byte(*b) {
-            return false;
-        }
-    }
-    true
-}
-
-fn all_digits(bytes: &[u8]) -> bool
-    ensures { result ≡ every is_ascii_digit bytes.now }
-{
-    for b in bytes {
-        if !b.is_ascii_digit() {
-            return false;
-        }
-    }
-    true
+    (1..=NAME_MOST).contains(&bytes.len()) && bytes.iter().all(|b| is_name_byte(*b))
 }
 
 fn is_padded(digits: &[u8]) -> bool
     ensures { result ≡ padded digits.now }
 {
-    match digits {
-        [b'0', _, ..] => true,
-        _ => false,
-    }
+    matches!(digits, [b'0', _, ..])
 }
 
 fn is_numeral(bytes: &[u8]) -> bool
     ensures { result ≡ is_number bytes.now }
 {
-    if bytes.len() < 1 || bytes.len() > DIGITS_MOST {
-        return false;
-    }
-    all_digits(bytes) && !is_padded(bytes)
+    (1..=DIGITS_MOST).contains(&bytes.len())
+        && bytes.iter().all(u8::is_ascii_digit)
+        && !is_padded(bytes)
 }
 
 // The number that a few digits write.
@@ -83,11 +50,7 @@ fn digits_value(digits: &[u8]) -> u32
     ensures number { result ≡ read_on 0 digits.now }
     ensures bound { result ≤ 99999 }
 {
-    let mut n = 0;
-    for b in digits {
-        n = n * 10 + u32::from(*b - b'0');
-    }
-    n
+    digits.iter().fold(0, |n, b| n * 10 + u32::from(*b - b'0'))
 }
 
 impl<'a> Field<'a> {
@@ -95,7 +58,7 @@ impl<'a> Field<'a> {
         ensures { result ≡ cond (is_name self.now.bytes.now)
             (Ok tt) (Err (FieldFault.Name self.now.line self.now.number)) }
     {
-        if self.bytes.len() < 1 || self.bytes.len() > NAME_MOST || !all_name_bytes(self.bytes) {
+        if !is_name(self.bytes) {
             return Err(FieldFault::Name {
                 line: self.line,
                 field: self.number,
@@ -104,9 +67,12 @@ impl<'a> Field<'a> {
         Ok(())
     }
 
-    pub fn check_number(&self) -> Result<(), FieldFault>
-        ensures { result ≡ cond (is_number self.now.bytes.now)
-            (Ok tt) (Err (FieldFault.Number self.now.line self.now.number)) }
+    // The number that the field writes.
+    pub fn check_number(&self) -> Result<u32, FieldFault>
+        ensures number { result ≡ cond (is_number self.now.bytes.now)
+            (Ok (value_of self.now.bytes.now))
+            (Err (FieldFault.Number self.now.line self.now.number)) }
+        ensures bound { IfOk result (λ n. n ≤ 99999) }
     {
         if !is_numeral(self.bytes) {
             return Err(FieldFault::Number {
@@ -114,7 +80,7 @@ impl<'a> Field<'a> {
                 field: self.number,
             });
         }
-        Ok(())
+        Ok(digits_value(self.bytes))
     }
 
     // The number that the field writes, or 0 if it writes none.
@@ -122,10 +88,6 @@ impl<'a> Field<'a> {
         ensures number { result ≡ value_of self.now.bytes.now }
         ensures bound { result ≤ 99999 }
     {
-        if is_numeral(self.bytes) {
-            digits_value(self.bytes)
-        } else {
-            0
-        }
+        self.check_number().unwrap_or(0)
     }
 }

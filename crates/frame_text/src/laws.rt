@@ -4,30 +4,22 @@ ghost use Rattle.frame_text.specs.Order.{FirstFaultStands};
 
 // The lines of a file, put together with their LFs, are the file; no line has an LF in it, and only the last may have
 // none after it.
-pub fn lines_join() -> bool
+pub fn lines_join()
     ensures { LinesJoin }
-{
-    true
-}
+{}
 
 // The fields of a line, put together with commas, are the line, and no field has a comma in it.
-pub fn fields_join() -> bool
+pub fn fields_join()
     ensures { FieldsJoin }
-{
-    true
-}
+{}
 
 // A number field is what is printed of its value, so that an answer repeats it as it stands.
-pub fn numbers_read_back() -> bool
+pub fn numbers_read_back()
     ensures { NumbersReadBack }
-{
-    true
-}
+{}
 
 // The fault that a line's reading finds is the first of the list of faults whose condition holds; with none, the
 // line is a record.
-pub fn first_fault_stands() -> bool
+pub fn first_fault_stands()
     ensures { FirstFaultStands }
-{
-    true
-}
+{}

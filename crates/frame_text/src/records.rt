@@ -1,25 +1,34 @@
 // Records: what a line says, with its name and its numbers borrowed from the file.
-ghost use Rattle.std.specs.Prelude.{◌≡◌, []};
-ghost use Rattle.frame_text.specs.declared.records.Kind.TheVariants.{Make, Put, Drop, Ask};
-ghost use Rattle.frame_text.specs.Fields.{fields};
-ghost use Rattle.frame_text.specs.Records.{kind_of, kinded, by_kind, by_count, by_letter, reading, stated};
-ghost use Rattle.frame_text.specs.Parts.{one_of, pair_of, one_field, two_fields, two_numbers};
+ghost use Rattle.std.specs.Prelude.{◌≡◌, Ok, ok_or};
+ghost use Rattle.frame_text.specs.declared.records.Kind.TheVariants.{Make, Ask};
+ghost use Rattle.frame_text.specs.Records.{kind_of, by_count, counted, part, part_of, reading, stated};
+ghost use Rattle.frame_text.specs.Parts.{one_of, pair_of, one_field, two_fields, two_numbers, kind_in, at_hand};
 
 use crate::faults::LineFault;
-use crate::fields::{Field, bytes_before};
+use crate::fields::Field;
 use crate::lines::Line;
 
 pub const LINE_MOST: usize = 64;
 
-// What can be asked of a vertex of an analysed frame.
+// What can be asked of a vertex of an analysed frame, each question with its letter.
 #[derive(Clone, Copy)]
 pub enum Question {
-    Parent,
-    Place,
-    FirstPlace,
-    Height,
-    RowCount,
-    ColumnCount,
+    Parent = b'U' as isize,
+    Place = b'O' as isize,
+    FirstPlace = b'F' as isize,
+    Height = b'H' as isize,
+    RowCount = b'R' as isize,
+    ColumnCount = b'C' as isize,
+}
+
+impl From<Question> for u8 {
+    ghost use Rattle.frame_text.specs.Answers.{letter_of};
+
+    ghost from_gives = { λ question r. r ≡ letter_of question };
+
+    fn from(question: Question) -> u8 {
+        question as u8
+    }
 }
 
 // The ten kinds of line, the six questions as one.
@@ -30,6 +39,32 @@ pub enum Kind {
     Drop,
     Analyse,
     Ask(Question),
+}
+
+// A letter that stands for no kind.
+#[derive(Clone, Copy)]
+pub struct NoKind;
+
+impl TryFrom<char> for Kind {
+    type Error = NoKind;
+
+    ghost try_from_gives = { λ letter r. r ≡ ok_or (kind_of letter) record {} };
+
+    fn try_from(letter: char) -> Result<Kind, NoKind> {
+        match letter {
+            'M' => Ok(Kind::Make),
+            'P' => Ok(Kind::Put),
+            'D' => Ok(Kind::Drop),
+            'A' => Ok(Kind::Analyse),
+            'U' => Ok(Kind::Ask(Question::Parent)),
+            'O' => Ok(Kind::Ask(Question::Place)),
+            'F' => Ok(Kind::Ask(Question::FirstPlace)),
+            'H' => Ok(Kind::Ask(Question::Height)),
+            'R' => Ok(Kind::Ask(Question::RowCount)),
+            'C' => Ok(Kind::Ask(Question::ColumnCount)),
+            _ => Err(NoKind),
+        }
+    }
 }
 
 // A line without fault: its names and numbers are as they should be.
@@ -67,132 +102,112 @@ impl<'a> Line<'a> {
         if !self.ended {
             return Err(LineFault::NoLf { line });
         }
-        read_bytes(self.bytes, line)
-    }
-}
-
-// A whole line, by its letter and what follows.
-fn read_bytes<'a>(bytes: &'a [u8], line: usize) -> Result<Record<'a>, LineFault>
-    ensures { stated result ≡ by_letter line (fields bytes.now) }
-{
-    match bytes {
-        [letter] => read_letter(*letter, line),
-        [letter, b',', rest @ ..] => read_fields(*letter, rest, line),
-        _ => Err(LineFault::Kind { line }),
-    }
-}
-
-// The kind that a letter stands for.
-fn kind_of(letter: u8, line: usize) -> Result<Kind, LineFault>
-    ensures { result ≡ kinded line (kind_of letter) }
-{
-    match letter as char {
-        'M' => Ok(Kind::Make),
-        'P' => Ok(Kind::Put),
-        'D' => Ok(Kind::Drop),
-        'A' => Ok(Kind::Analyse),
-        'U' => Ok(Kind::Ask(Question::Parent)),
-        'O' => Ok(Kind::Ask(Question::Place)),
-        'F' => Ok(Kind::Ask(Question::FirstPlace)),
-        'H' => Ok(Kind::Ask(Question::Height)),
-        'R' => Ok(Kind::Ask(Question::RowCount)),
-        'C' => Ok(Kind::Ask(Question::ColumnCount)),
-        _ => Err(LineFault::Kind { line }),
-    }
-}
-
-// A line that is a letter alone.
-fn read_letter<'a>(letter: u8, line: usize) -> Result<Record<'a>, LineFault>
-    ensures { stated result ≡ by_kind line (kind_of letter) [] }
-{
-    match kind_of(letter, line)? {
-        Kind::Analyse => Ok(Record::Analyse),
-        Kind::Make | Kind::Put | Kind::Drop | Kind::Ask(_) => Err(LineFault::FieldCount { line }),
-    }
-}
-
-// A line that goes on after its letter and a comma.
-fn read_fields<'a>(letter: u8, rest: &'a [u8], line: usize) -> Result<Record<'a>, LineFault>
-    ensures { stated result ≡ by_kind line (kind_of letter) (fields rest.now) }
-{
-    match kind_of(letter, line)? {
-        Kind::Make => read_make(rest, line),
-        Kind::Put => read_put(rest, line),
-        Kind::Drop => read_drop(rest, line),
-        Kind::Analyse => Err(LineFault::FieldCount { line }),
-        Kind::Ask(question) => read_ask(question, rest, line),
-    }
-}
-
-fn read_make<'a>(rest: &'a [u8], line: usize) -> Result<Record<'a>, LineFault>
-    ensures { stated result ≡ by_count line Make (fields rest.now) }
-{
-    let (name, order) = two_fields(rest, line)?;
-    name.check_name()?;
-    order.check_number()?;
-    Ok(Record::Make { name, order })
-}
-
-fn read_put<'a>(rest: &'a [u8], line: usize) -> Result<Record<'a>, LineFault>
-    ensures { stated result ≡ by_count line Put (fields rest.now) }
-{
-    let (i, j) = two_numbers(rest, line)?;
-    Ok(Record::Put { i, j })
-}
-
-fn read_drop<'a>(rest: &'a [u8], line: usize) -> Result<Record<'a>, LineFault>
-    ensures { stated result ≡ by_count line Drop (fields rest.now) }
-{
-    let (i, j) = two_numbers(rest, line)?;
-    Ok(Record::Drop { i, j })
-}
-
-fn read_ask<'a>(question: Question, rest: &'a [u8], line: usize) -> Result<Record<'a>, LineFault>
-    ensures { stated result ≡ by_count line (Ask question) (fields rest.now) }
-{
-    let vertex = last_field(rest, line, 2)?;
-    vertex.check_number()?;
-    Ok(Record::Ask { question, vertex })
-}
-
-fn two_numbers<'a>(rest: &'a [u8], line: usize) -> Result<(Field<'a>, Field<'a>), LineFault>
-    ensures { pair_of result ≡ two_numbers line (fields rest.now) }
-{
-    let (i, j) = two_fields(rest, line)?;
-    i.check_number()?;
-    j.check_number()?;
-    Ok((i, j))
-}
-
-// What is left of a line, as its one field left.
-fn last_field<'a>(rest: &'a [u8], line: usize, number: u8) -> Result<Field<'a>, LineFault>
-    ensures { one_of result ≡ one_field line number (fields rest.now) }
-{
-    if bytes_before(rest, b',') < rest.len() {
-        return Err(LineFault::FieldCount { line });
-    }
-    Ok(Field {
-        bytes: rest,
-        line,
-        number,
-    })
-}
-
-// What follows the letter, as the two fields left.
-fn two_fields<'a>(rest: &'a [u8], line: usize) -> Result<(Field<'a>, Field<'a>), LineFault>
-    ensures { pair_of result ≡ two_fields line (fields rest.now) }
-{
-    let end = bytes_before(rest, b',');
-    if end == rest.len() {
-        return Err(LineFault::FieldCount { line });
-    }
-    let second = last_field(&rest[end + 1..], line, 3)?;
-    Ok((
-        Field {
-            bytes: &rest[0..end],
+        let mut fields = self.bytes.split(|b| *b == b',');
+        let Some(kind) = kind_in(fields.next()) else {
+            return Err(LineFault::Kind { line });
+        };
+        let operands = Operands {
             line,
-            number: 2,
-        },
-        second,
-    ))
+            second: fields.next(),
+            third: fields.next(),
+            fourth: fields.next(),
+        };
+        operands.record(kind)
+    }
+}
+
+// The kind whose letter a field is.
+fn kind_in(field: Option<&[u8]>) -> Option<Kind>
+    ensures { result ≡ kind_in field.entry }
+{
+    match field {
+        Some([letter]) => Kind::try_from(char::from(*letter)).ok(),
+        _ => None,
+    }
+}
+
+// The fields after a line's letter, up to one more than any kind has.
+#[derive(Clone, Copy)]
+struct Operands<'a> {
+    line: usize,
+    second: Option<&'a [u8]>,
+    third: Option<&'a [u8]>,
+    fourth: Option<&'a [u8]>,
+}
+
+impl<'a> Operands<'a> {
+    fn field(&self, bytes: &'a [u8], number: u8) -> Field<'a>
+        ensures { part_of result ≡ part self.now.line number bytes.entry.now }
+    {
+        Field {
+            bytes,
+            line: self.line,
+            number,
+        }
+    }
+
+    fn record(&self, kind: Kind) -> Result<Record<'a>, LineFault>
+        ensures { stated result ≡ by_count self.now.line kind (at_hand self.now) }
+    {
+        match kind {
+            Kind::Make => self.make(),
+            Kind::Put => self.two_numbers().map(|(i, j)| Record::Put { i, j }),
+            Kind::Drop => self.two_numbers().map(|(i, j)| Record::Drop { i, j }),
+            Kind::Analyse => self.none().map(|()| Record::Analyse),
+            Kind::Ask(question) => self.ask(question),
+        }
+    }
+
+    fn make(&self) -> Result<Record<'a>, LineFault>
+        ensures { stated result ≡ by_count self.now.line Make (at_hand self.now) }
+    {
+        let (name, order) = self.two()?;
+        name.check_name()?;
+        order.check_number()?;
+        Ok(Record::Make { name, order })
+    }
+
+    fn ask(&self, question: Question) -> Result<Record<'a>, LineFault>
+        ensures { stated result ≡ by_count self.now.line (Ask question) (at_hand self.now) }
+    {
+        let vertex = self.one()?;
+        vertex.check_number()?;
+        Ok(Record::Ask { question, vertex })
+    }
+
+    fn two_numbers(&self) -> Result<(Field<'a>, Field<'a>), LineFault>
+        ensures { pair_of result ≡ two_numbers self.now.line (at_hand self.now) }
+    {
+        let (i, j) = self.two()?;
+        i.check_number()?;
+        j.check_number()?;
+        Ok((i, j))
+    }
+
+    fn none(&self) -> Result<(), LineFault>
+        ensures { result ≡ counted self.now.line 0 (at_hand self.now) (Ok tt) }
+    {
+        match self.second {
+            None => Ok(()),
+            Some(_) => Err(LineFault::FieldCount { line: self.line }),
+        }
+    }
+
+    fn one(&self) -> Result<Field<'a>, LineFault>
+        ensures { one_of result ≡ one_field self.now.line 2 (at_hand self.now) }
+    {
+        match (self.second, self.third) {
+            (Some(only), None) => Ok(self.field(only, 2)),
+            _ => Err(LineFault::FieldCount { line: self.line }),
+        }
+    }
+
+    fn two(&self) -> Result<(Field<'a>, Field<'a>), LineFault>
+        ensures { pair_of result ≡ two_fields self.now.line (at_hand self.now) }
+    {
+        match (self.second, self.third, self.fourth) {
+            (Some(second), Some(third), None) => Ok((self.field(second, 2), self.field(third, 3))),
+            _ => Err(LineFault::FieldCount { line: self.line }),
+        }
+    }
 }

@@ -1,33 +1,23 @@
 // Both ends of every limit, every fault by a line of its own, which of two comes first, and blocks byte by byte.
 use crate::{Answer, FrameReader, Question, Record, Report};
 
-// What is reported of the first line; line 0 if it has no fault or there is none.
-fn report(file: &[u8]) -> Report {
-    let mut reader = FrameReader::new(file);
-    match reader.next_line() {
-        Some(line) => match line.read() {
-            Ok(_) => Report {
-                line: 0,
-                field: 0,
-                number: 0,
-            },
-            Err(fault) => fault.report(),
-        },
-        None => Report {
-            line: 0,
-            field: 0,
-            number: 0,
-        },
-    }
+// What is reported of the first line; none if it has no fault or there is none.
+fn report(file: &[u8]) -> Option<Report> {
+    let fault = FrameReader::new(file).next()?.read().err()?;
+    Some(Report::from(fault))
 }
 
 fn refused(file: &[u8], field: u8, number: u8) -> bool {
-    let r = report(file);
-    r.line == 1 && r.field == field && r.number == number
+    let expected = Report {
+        line: 1,
+        field,
+        number,
+    };
+    report(file) == Some(expected)
 }
 
 fn accepted(file: &[u8]) -> bool {
-    report(file).line == 0
+    report(file).is_none()
 }
 
 #[test]
@@ -107,37 +97,31 @@ fn a_carriage_return_is_a_byte_like_any_other(rt: HostRuntime) {
 #[test]
 fn lines_are_counted(rt: HostRuntime) {
     let mut none = FrameReader::new(b"");
-    assert!(rt; none.next_line().is_none());
+    assert!(rt; none.next().is_none());
     let mut reader = FrameReader::new(b"A\n\nC");
-    assert_eq!(rt; ended(&mut reader), (1, true));
-    assert_eq!(rt; ended(&mut reader), (2, true));
-    assert_eq!(rt; ended(&mut reader), (3, false));
-    assert!(rt; reader.next_line().is_none());
+    assert_eq!(rt; ended(&mut reader), Some((1, true)));
+    assert_eq!(rt; ended(&mut reader), Some((2, true)));
+    assert_eq!(rt; ended(&mut reader), Some((3, false)));
+    assert!(rt; reader.next().is_none());
 }
 
-fn ended(reader: &mut FrameReader) -> (usize, bool) {
-    match reader.next_line() {
-        Some(line) => (line.number, line.ended),
-        None => (0, false),
-    }
+fn ended(reader: &mut FrameReader) -> Option<(usize, bool)> {
+    let line = reader.next()?;
+    Some((line.number, line.ended))
 }
 
-// The numbers that a line puts, or 0 and 0.
-fn puts(file: &[u8]) -> (u32, u32) {
-    let mut reader = FrameReader::new(file);
-    let Some(line) = reader.next_line() else {
-        return (0, 0);
-    };
-    match line.read() {
-        Ok(Record::Put { i, j }) => (i.value(), j.value()),
-        _ => (0, 0),
+// The numbers that a file's first line puts.
+fn puts(file: &[u8]) -> Option<(u32, u32)> {
+    match FrameReader::new(file).next()?.read() {
+        Ok(Record::Put { i, j }) => Some((i.value(), j.value())),
+        _ => None,
     }
 }
 
 #[test]
 fn fields_have_their_values(rt: HostRuntime) {
-    assert_eq!(rt; puts(b"P,7,16384\n"), (7, 16384));
-    assert_eq!(rt; puts(b"D,7,16384\n"), (0, 0));
+    assert_eq!(rt; puts(b"P,7,16384\n"), Some((7, 16384)));
+    assert_eq!(rt; puts(b"D,7,16384\n"), None);
 }
 
 #[test]

@@ -4,7 +4,6 @@ ghost use Rattle.frame_text.specs.Lines.{lines};
 ghost use Rattle.frame_text.specs.Readers.{left, handed, Hands};
 
 use super::{FrameReader, Line};
-use crate::fields::bytes_before;
 
 impl<'a> FrameReader<'a> {
     pub fn new(file: &'a [u8]) -> FrameReader<'a>
@@ -17,30 +16,37 @@ impl<'a> FrameReader<'a> {
             line: 0,
         }
     }
+}
+
+impl<'a> Iterator for FrameReader<'a> {
+    ghost use Rattle.std.specs.Iterator.{item_count};
+
+    type Item = Line<'a>;
+
+    ghost next_gives = { Hands };
+
+    ghost remaining = { item_count left };
 
     // The next line, or none at the end of the file.
-    pub fn next_line(&mut self) -> Option<Line<'a>>
-        ensures { Hands self.old result self.new }
-    {
-        let file = self.file;
-        if self.at == file.len() {
+    fn next(&mut self) -> Option<Line<'a>> {
+        let rest = &self.file[self.at..];
+        if rest.is_empty() {
             return None;
         }
-        let rest = &file[self.at..];
-        let length = bytes_before(rest, b'\n');
         self.line += 1;
-        if length == rest.len() {
-            self.at = file.len();
+        let number = self.line;
+        let Some(end) = rest.iter().position(|b| *b == b'\n') else {
+            self.at = self.file.len();
             return Some(Line {
                 bytes: rest,
-                number: self.line,
+                number,
                 ended: false,
             });
-        }
-        self.at += length + 1;
+        };
+        self.at += end + 1;
         Some(Line {
-            bytes: &rest[0..length],
-            number: self.line,
+            bytes: &rest[..end],
+            number,
             ended: true,
         })
     }

@@ -10,8 +10,8 @@ pub loop-line-preserved : goal.loop-line-preserved
 loop-line-preserved g c =
     let done = c.answer_line-block.ensures in (
       next_state _ _ c.args.model.now c.loop-line.model c.answer_line-block.new.model c.in-Some.line
-          c.loop-line.reader c.next_line.new.self _ c.loop-line.invariant.1 c.loop-line.invariant.2
-          c.in-Some.ensures done.state c.loop-line.invariant.0,
+          c.loop-line.line-iterator c.next.new.self _ c.loop-line.invariant.1 c.loop-line.invariant.2
+          c.in-Some.ensures.steps done.state c.loop-line.invariant.0,
       done.room ∙ c.loop-line.invariant.1,
       λ none.
           done.table none
@@ -20,7 +20,7 @@ loop-line-preserved g c =
           (reading c.in-Some.line.number c.in-Some.line.bytes.now c.in-Some.line.ended)
           (sym (ap empty done.state) ∙ none)),
       next_answer g.A.Answers.took _ _ c.args.model.now c.loop-line.model c.answer_line-block.new.model
-          c.in-Some.line c.loop-line.reader c.next_line.new.self c.loop-line.answers
-          c.take-in-Some.new.self c.answer_line-block.result _ c.loop-line.invariant.1 c.loop-line.invariant.2
-          c.in-Some.ensures done.state done.block c.take-in-Some.ensures c.loop-line.invariant.3,
+          c.in-Some.line c.loop-line.line-iterator c.next.new.self c.loop-line.answers
+          c.take-in-loop-line.new.self c.answer_line-block.result _ c.loop-line.invariant.1 c.loop-line.invariant.2
+          c.in-Some.ensures.steps done.state done.block c.take-in-loop-line.ensures c.loop-line.invariant.3,
     )

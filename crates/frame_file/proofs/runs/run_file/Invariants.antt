@@ -1,5 +1,5 @@
 -- What the lines that are left make of the model is what all make of it as it was.
-use Rattle.std.proofs.Common.{◌≡◌, true, length}
+use Rattle.std.proofs.Common.{◌≡◌, true}
 use Rattle.model.specs.Meaning.{meaning}
 use Rattle.frame_text.specs.Lines.{lines}
 use Rattle.frame_text.specs.Readers.{handed, left}
@@ -9,17 +9,15 @@ use Rattle.frame_file.proofs.runs.run_file.Given as goal
 
 abbrev pub invariant-loop-line : goal.invariant-loop-line
 invariant-loop-line g l =
-    (states_from (lent_with l.initial.model (g.S.AncestorSets.meaning l.initial.sets).size) (handed l.reader)
-    (meaning l.model) (left l.reader)
+    (states_from (lent_with l.initial.model (g.S.AncestorSets.meaning l.initial.sets).size) (handed l.line-iterator)
+    (meaning l.model) (left l.line-iterator)
     ≡ states_from (lent_with l.initial.model (g.S.AncestorSets.meaning l.initial.sets).size) 0
     (meaning l.initial.model) (lines l.file))
     × ((g.S.AncestorSets.meaning l.sets).size ≡ (g.S.AncestorSets.meaning l.initial.sets).size)
     × (empty (meaning l.model) ≡ true → places l.model ≡ places l.initial.model)
     × ((end : g.row.A.Denot)
     → Answered g.A.Answers.took (lent_with l.initial.model (g.S.AncestorSets.meaning l.initial.sets).size)
-    (handed l.reader) (meaning l.model) (left l.reader) l.answers end
+    (handed l.line-iterator) (meaning l.model) (left l.line-iterator) l.answers end
     → Answered g.A.Answers.took (lent_with l.initial.model (g.S.AncestorSets.meaning l.initial.sets).size) 0
     (meaning l.initial.model) (lines l.file) l.initial.answers end)
 
-abbrev pub decreases-loop-line : goal.decreases-loop-line
-decreases-loop-line g l = length (left l.reader)

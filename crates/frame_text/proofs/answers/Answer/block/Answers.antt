@@ -6,8 +6,8 @@ use Rattle.frame_text.proofs.answers.Answer.block.Goals as goal
 
 pub returns : goal.returns
 returns c =
-    let full = c.push.ensures _ (c.write.ensures.adds _ c.new-block.ensures) in
+    let full = c.finish.ensures _ (c.push.ensures _ (c.write.ensures.adds _ c.new-block.ensures)) in
     record {
-      block = full.bytes;
-      whole = λ short. full.bytes ∙ whole_text (text_of c.args.self.now) (c.write.ensures.short short);
+      block = full;
+      whole = λ short. full ∙ whole_text (text_of c.args.self.now) (c.write.ensures.short short);
     }

@@ -8,9 +8,8 @@ use Rattle.frame_text.proofs.answers.Answer.write.Goals as goal
 pub returns-in-Made : goal.returns-in-Made
 returns-in-Made c = record {
   adds = adds_same _ _ _ _ (sym (ap text_of c.in-Made.is))
-      (adds_then _ _ _ _ _ (adds_then _ _ _ _ _ (adds_then _ _ _ _ _ c.push.ensures
+      (adds_then _ _ _ _ _ (adds_then _ _ _ _ _ c.push.ensures
       c.push-in-Made.ensures)
-      c.push_bytes.ensures)
       c.push_then.ensures);
   short = short_text c.args.self.now (subst Fitting (sym c.in-Made.is) (omega arith));
 }
@@ -42,7 +41,7 @@ returns-in-Analysed c = record {
 pub returns-in-Asked : goal.returns-in-Asked
 returns-in-Asked c = record {
   adds = adds_same _ _ _ _
-      (ap (λ b. b ∷ then c.in-Asked.vertex ++ then c.in-Asked.number) c.letter.ensures ∙
+      (ap (λ b. b ∷ then c.in-Asked.vertex ++ then c.in-Asked.number) c.from.ensures ∙
       sym (ap text_of c.in-Asked.is))
       (adds_then _ _ _ _ _ (adds_then _ _ _ _ _ c.push-in-Asked.ensures
       c.push_then-in-Asked.ensures)

@@ -1,5 +1,0 @@
--- The tens are fewer.
-use Rattle.frame_text.proofs.answers.Block.+push_number.Given as goal
-
-abbrev pub decreases-push_number : goal.decreases-push_number
-decreases-push_number l = l.n
