@@ -14,12 +14,12 @@ use Rattle.frame_text.specs.declared.answers.Answer.TheVariants as says
 use Rattle.frame_text.specs.declared.faults.LineFault.{LineFault}
 use Rattle.frame_text.specs.declared.faults.LineFault.TheVariants.{FieldCount, Field}
 use Rattle.frame_text.specs.declared.faults.FieldFault.TheVariants.{Name, Number}
+use Rattle.frame_text.specs.declared.lines.Line.{Line}
 use Rattle.frame_text.specs.declared.records.Kind.{Kind}
 use Rattle.frame_text.specs.declared.records.Kind.TheVariants as kinds
 use Rattle.frame_file.specs.declared.faults.RunFault.{RunFault}
-use Rattle.frame_file.specs.Carried.{Carried}
-use Rattle.frame_file.specs.Faults.{run_report}
-use Rattle.frame_file.specs.Runs.{Sizes, answer_by, bare, in_place, line_text, line_verdict, refusal_of, said, state_by, unless, verdict}
+use Rattle.frame_file.specs.Carried.{Carried, Does, LineAnswered, lent_with}
+use Rattle.frame_file.specs.Runs.{Sizes, answer_by, bare, in_place, line_verdict, refusal_of, said, state_by, unless, verdict}
 
 -- how long a name a statement gives
 abbrev pub given_name : Statement → ℕ
@@ -33,20 +33,16 @@ abbrev pub Short : {E : Type 0} → Result Statement E → Type 0
 Short (Ok t) = given_name t ≤ 16
 Short (Err fault) = Unit {0}
 
-short_if : {E : Type 0} (b : Bool) (x y : Result Statement E) → Short x → Short y → Short (cond b x y)
-short_if true x y hx hy = hx
+short_if : {E : Type 0} (b : Bool) (x y : Result Statement E) → (b ≡ true → Short x) → Short y → Short (cond b x y)
+short_if true x y hx hy = hx refl
 short_if false x y hx hy = hy
 
-short_named : (b : Bool) (x y : Result Statement LineFault) → (b ≡ true → Short x) → Short y → Short (cond b x y)
-short_named true x y hx hy = hx refl
-short_named false x y hx hy = hy
-
 short_numbered : (p : Part) (next : Result Statement LineFault) → Short next → Short (numbered p next)
-short_numbered p next h = short_if (is_number p.bytes) next (Err (Field (Number p.line p.number))) h tt
+short_numbered p next h = short_if (is_number p.bytes) next (Err (Field (Number p.line p.number))) (λ _. h) tt
 
 short_fields : (kind : Kind) (i j : Part) → Short (by_fields kind i j)
 short_fields kinds.Make i j =
-    short_named (is_name i.bytes) (numbered j (Ok (makes i j))) (Err (Field (Name i.line i.number)))
+    short_if (is_name i.bytes) (numbered j (Ok (makes i j))) (Err (Field (Name i.line i.number)))
     (λ e. short_numbered j (Ok (makes i j))
     (let n : ℕ = length i.bytes in
     leb-true n 16 (and_parts (leb 1 n) (leb n 16) (and_parts (leb 1 n && leb n 16) (every name_byte i.bytes) e).0).1)) tt
@@ -59,7 +55,7 @@ short_kind : (line : ℕ) (kind : Option Kind) (rest : List (List ℕ)) → Shor
 short_kind line None rest = tt
 short_kind line (Some kind) rest =
     short_if (eqb (length rest) (operands kind)) (by_fields kind (part line 2 (get_or rest 0 [])) (part line 3 (get_or rest 1 []))) (Err (FieldCount line))
-    (short_fields kind (part line 2 (get_or rest 0 [])) (part line 3 (get_or rest 1 []))) tt
+    (λ _. short_fields kind (part line 2 (get_or rest 0 [])) (part line 3 (get_or rest 1 []))) tt
 
 short_letter : (line : ℕ) (fs : List (List ℕ)) → Short (by_letter line fs)
 short_letter line [] = tt
@@ -67,14 +63,14 @@ short_letter line (first ∷ rest) = short_kind line (letter first) rest
 
 short_reading : (line : ℕ) (bytes : List ℕ) (ended : Bool) → Short (reading line bytes ended)
 short_reading line bytes ended =
-    short_if (ltb 64 (length bytes)) _ _ tt (short_if ended _ _ (short_letter line (fields bytes)) tt)
+    short_if (ltb 64 (length bytes)) _ _ (λ _. tt) (short_if ended _ _ (λ _. short_letter line (fields bytes)) tt)
 
 short_unless : (line : ℕ) (f : Option Refusal) (t : Statement) → given_name t ≤ 16 → Short (unless line f t)
 short_unless line None t h = h
 short_unless line (Some refusal) t h = tt
 
 short_verdict : (z : Sizes) (s : State) (line : ℕ) (r : Result Statement LineFault) → Short r → Short (verdict z s line r)
-short_verdict z s line (Ok t) h = short_if (in_place s t) _ _ (short_unless line (refusal_of z s t) t h) tt
+short_verdict z s line (Ok t) h = short_if (in_place s t) _ _ (λ _. short_unless line (refusal_of z s t) t h) tt
 short_verdict z s line (Err fault) h = tt
 
 name_said : (s : State) (t : Statement) → name_length (said s t) ≡ given_name t
@@ -100,38 +96,27 @@ text_bare (says.Analysed total) = refl
 text_bare (says.Asked question vertex n) = refl
 text_bare (says.Refused report) = refl
 
-module _ (z : Sizes) (before after : Model) where
-  -- the text of an answer that is given, and that its name is short
-  told : (v : Result Statement RunFault) (a : Answer) → Short v → Carried z v before after (Ok a)
-      → (name_length a ≤ 16) × (text_of a ≡ text_of (answer_by (state_by z (meaning before) v) v))
-  told (Ok t) a h c =
-      let same : bare a ≡ said (meaning after) t = let e = c.answer in cc in
-      let named : name_length a ≡ given_name t
-      = sym (name_bare a) ∙ ap name_length same ∙ name_said (meaning after) t in (
-        omega arith,
-        sym (text_bare a) ∙ ap text_of same ∙ ap (λ s. text_of (said s t)) c.state,
-      )
-  told (Err fault) a h c = let clash : ◌≡◌ {A = ℕ} 0 1 = let e = c.answer in cc in absurd (omega arith)
+-- the text of an answer that is given, and that its name is short
+told : (z : Sizes) (before after : Model) (v : Result Statement RunFault) (a : Answer) → Short v → Carried z v before after (Ok a)
+    → (name_length a ≤ 16) × (text_of a ≡ text_of (answer_by (state_by z (meaning before) v) v))
+told z before after (Ok t) a h c =
+    let same : bare a ≡ said (meaning after) t = let e = c.answer in cc in
+    let named : name_length a ≡ given_name t
+    = sym (name_bare a) ∙ ap name_length same ∙ name_said (meaning after) t in (
+      omega arith,
+      sym (text_bare a) ∙ ap text_of same ∙ ap (λ s. text_of (said s t)) c.state,
+    )
+told z before after (Err fault) a h c = let e = c.answer in grind arith
 
-  told_fault : (v : Result Statement RunFault) (fault : RunFault) → Carried z v before after (Err fault)
-      → text_of (says.Refused (run_report fault)) ≡ text_of (answer_by (state_by z (meaning before) v) v)
-  told_fault (Ok t) fault c = let clash : ◌≡◌ {A = ℕ} 0 1 = let e = c.answer in cc in absurd (omega arith)
-  told_fault (Err fault') fault c =
-      let same : fault ≡ fault' = let e = c.answer in cc in ap (λ f. text_of (says.Refused (run_report f))) same
-
-  pub block_told : (n : ℕ) (l : List ℕ × Bool) (a : Answer) (block : List ℕ)
-      → Carried z (line_verdict z (meaning before) n l) before after (Ok a)
-      → (name_length a ≤ 16 → block ≡ whole_block (text_of a))
-      → block ≡ whole_block (line_text z (meaning before) n l)
-  block_told n l a block c whole =
-      let v : Result Statement RunFault = line_verdict z (meaning before) n l in
-      let h : Short v = short_verdict z (meaning before) n (reading n l.0 l.1) (short_reading n l.0 l.1) in
-      let both = told v a h c in
-      whole both.0 ∙ ap whole_block both.1
-
-  pub block_refused : (n : ℕ) (l : List ℕ × Bool) (fault : RunFault) (block : List ℕ)
-      → Carried z (line_verdict z (meaning before) n l) before after (Err fault)
-      → block ≡ whole_block (text_of (says.Refused (run_report fault)))
-      → block ≡ whole_block (line_text z (meaning before) n l)
-  block_refused n l fault block c whole =
-      whole ∙ ap whole_block (told_fault (line_verdict z (meaning before) n l) fault c)
+-- a line that is answered by a
+pub line_answered : (size : ℕ) (l : Line) (before after : Model) (a : Answer) (block : List ℕ)
+    → Does size (λ z s. line_verdict z s l.number (l.bytes.now, l.ended)) before after (Ok a)
+    → (name_length a ≤ 16 → block ≡ whole_block (text_of a))
+    → LineAnswered size l before after block
+line_answered size l before after a block c whole =
+    let z : Sizes = lent_with before size in
+    let s : State = meaning before in
+    let v : Result Statement RunFault = line_verdict z s l.number (l.bytes.now, l.ended) in
+    let h : Short v = short_verdict z s l.number _ (short_reading l.number l.bytes.now l.ended) in
+    let both = told z before after v a h c in
+    record { state = c.state; block = whole both.0 ∙ ap whole_block both.1; table = c.table }

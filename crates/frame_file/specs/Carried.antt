@@ -1,12 +1,14 @@
 -- What carrying out a statement, as a verdict has it, makes of a model, and what it answers.
-use Rattle.std.specs.Prelude.{◌≡◌, ℕ, true, length, Result}
+use Rattle.std.specs.Prelude.{◌≡◌, ℕ, true, List, length, Result}
 use Rattle.std.specs.Result.{result_map_both}
 use Rattle.model.specs.Meaning.{meaning}
+use Rattle.model.specs.States.{State}
 use Rattle.model.specs.declared.models.Model.{Model}
+use Rattle.frame_text.specs.Answers.{whole_block}
 use Rattle.frame_text.specs.Records.{Statement}
 use Rattle.frame_text.specs.declared.answers.Answer.{Answer}
-use Rattle.frame_file.specs.declared.faults.RunFault.{RunFault}
-use Rattle.frame_file.specs.Runs.{Sizes, empty, refusal_of, said, bare, state_by, unless}
+use Rattle.frame_text.specs.declared.lines.Line.{Line}
+use Rattle.frame_file.specs.Runs.{Sizes, bare, empty, line_state, line_text, said, state_by}
 
 -- the length of a model's vertex table
 abbrev pub places : Model → ℕ
@@ -16,13 +18,22 @@ places m = length m.store.vertices.now
 abbrev pub lent_with : Model → ℕ → Sizes
 lent_with m size = record { vertices = places m; sets = size }
 
-pub record Carried (z : Sizes) (v : Result Statement RunFault) (before after : Model) (r : Result Answer RunFault) : Type 0 where
+pub record Carried {E : Type 0} (z : Sizes) (v : Result Statement E) (before after : Model) (r : Result Answer E)
+    : Type 0 where
   pub state : meaning after ≡ state_by z (meaning before) v
   pub answer : result_map_both bare (λ fault. fault) r ≡ result_map_both (said (meaning after)) (λ fault. fault) v
   -- so that a line that leaves the model empty leaves the next one the same vertex table
   pub table : empty (meaning after) ≡ true → places after ≡ places before
 
--- the same of a statement that is in place
-abbrev pub Does : ℕ → ℕ → Statement → Model → Model → Result Answer RunFault → Type 0
-Does size line t before after r =
-    Carried (lent_with before size) (unless line (refusal_of (lent_with before size) (meaning before) t) t) before after r
+-- the same by a rule, which gives its verdict by what is lent and by the state
+abbrev pub Does : {E : Type 0} → ℕ → (Sizes → State → Result Statement E) → Model → Model → Result Answer E
+    → Type 0
+Does size rule before after r =
+    Carried (lent_with before size) (rule (lent_with before size) (meaning before)) before after r
+
+-- what carrying out a line makes of a model, and the block that answers it
+pub record LineAnswered (size : ℕ) (l : Line) (before after : Model) (answer : List ℕ) : Type 0 where
+  pub state : meaning after ≡ line_state (lent_with before size) (meaning before) l.number (l.bytes.now, l.ended)
+  pub block : answer
+      ≡ whole_block (line_text (lent_with before size) (meaning before) l.number (l.bytes.now, l.ended))
+  pub table : empty (meaning after) ≡ true → places after ≡ places before

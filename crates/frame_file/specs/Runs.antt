@@ -1,10 +1,11 @@
 -- What a run makes of a line: whether it is accepted, the state of the model that it leaves, and its answer.
-use Rattle.std.specs.Prelude.{◌≡◌, ℕ, ◌+◌, Bool, true, false, cond, not, List, [], ◌∷◌, length, Some, None, Ok, Err, Option, Result, ◌==◌, nat_lt}
+use Rattle.std.specs.Prelude.{◌≡◌, ℕ, ◌+◌, Bool, true, false, cond, not, List, [], ◌∷◌, length, Ok, Err, Option, Result, ◌==◌, nat_lt}
 use Rattle.std.specs.Borrow.{Bor}
+use Rattle.std.specs.Result.{result_map_both}
 use Rattle.pattern.specs.Elimination.{total}
 use Rattle.pattern.specs.Patterns.{Pattern}
 use Rattle.model.specs.Asked.{numbers_of}
-use Rattle.model.specs.States.{State, Put, Drop, Analyse, Question, first_refusal, first_fault, made, accepted, pattern_in}
+use Rattle.model.specs.States.{State, Put, Drop, Analyse, Question, answer, first_refusal, first_fault, made, accepted, pattern_in}
 use Rattle.model.specs.declared.refusals.Refusal.{Refusal}
 use Rattle.frame_text.specs.Answers.{text_of, whole_block}
 use Rattle.frame_text.specs.Fields.{value_of}
@@ -91,9 +92,13 @@ bare (says.Analysed total) = says.Analysed total
 bare (says.Asked question vertex n) = says.Asked question vertex n
 bare (says.Refused report) = says.Refused report
 
+-- a statement that is in place, if the model takes it, or the refusal that comes first
+abbrev pub judged : Statement → Sizes → State → Result Statement Refusal
+judged t z s = answer (refusal_of z s t) t
+
+-- the same as a fault of its line
 abbrev pub unless : ℕ → Option Refusal → Statement → Result Statement RunFault
-unless line None t = Ok t
-unless line (Some refusal) t = Err (Refused line refusal)
+unless line f t = result_map_both (λ t. t) (Refused line) (answer f t)
 
 -- a statement of a line, if it is accepted, or the fault that comes first
 abbrev pub allowed : Sizes → State → ℕ → Statement → Result Statement RunFault
@@ -103,7 +108,7 @@ abbrev pub verdict : Sizes → State → ℕ → Result Statement LineFault → 
 verdict z s line (Ok t) = allowed z s line t
 verdict z s line (Err fault) = Err (Line fault)
 
-abbrev pub state_by : Sizes → State → Result Statement RunFault → State
+abbrev pub state_by : {E : Type 0} → Sizes → State → Result Statement E → State
 state_by z s (Ok t) = left_by z s t
 state_by z s (Err fault) = s
 

@@ -1,9 +1,10 @@
 // What can be wrong in a run, each fault with where it is, and what an answer reports of it.
 ghost use Rattle.std.specs.Prelude.{◌≡◌};
+ghost use Rattle.frame_text.specs.declared.answers.Answer.TheVariants as says;
 ghost use Rattle.frame_file.specs.declared.faults.RunFault.TheVariants.{Line};
 ghost use Rattle.frame_file.specs.Faults.{field_of, run_report};
 
-use frame_text::{LineFault, Report};
+use frame_text::{Answer, LineFault, Report};
 use model::{Refusal, Side};
 
 #[derive(Clone, Copy)]
@@ -31,12 +32,12 @@ fn field_of(refusal: Refusal) -> u8
     ensures { result ≡ field_of refusal }
 {
     match refusal {
+        Refusal::VertexOutOfRange(Side::First) => 2,
         Refusal::OrderOutOfRange
         | Refusal::EmptyModel
         | Refusal::TableTooShort
-        | Refusal::SetsTooSmall => 3,
-        Refusal::VertexOutOfRange(Side::First) => 2,
-        Refusal::VertexOutOfRange(Side::Second) => 3,
+        | Refusal::SetsTooSmall
+        | Refusal::VertexOutOfRange(Side::Second) => 3,
         Refusal::EqualVertices
         | Refusal::EntryHeld
         | Refusal::ModelFull
@@ -45,11 +46,11 @@ fn field_of(refusal: Refusal) -> u8
     }
 }
 
-impl RunFault {
-    pub fn report(&self) -> Report
-        ensures { result ≡ run_report self.now }
-    {
-        match *self {
+impl From<RunFault> for Report {
+    ghost from_gives = { λ fault r. r ≡ run_report fault };
+
+    fn from(fault: RunFault) -> Report {
+        match fault {
             RunFault::FileTooLong => Report {
                 line: 0,
                 field: 0,
@@ -67,5 +68,13 @@ impl RunFault {
                 number: refusal.number(),
             },
         }
+    }
+}
+
+impl<'a> From<RunFault> for Answer<'a> {
+    ghost from_gives = { λ fault r. r ≡ says.Refused (run_report fault) };
+
+    fn from(fault: RunFault) -> Answer<'a> {
+        Answer::Refused(fault.into())
     }
 }

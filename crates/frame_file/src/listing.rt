@@ -1,5 +1,5 @@
 // A sink that keeps the blocks in a table.
-ghost use Rattle.std.specs.Prelude.{◌≡◌, length};
+ghost use Rattle.std.specs.Prelude.{◌≡◌};
 ghost use Rattle.frame_file.specs.Sinks.{Listed};
 
 use crate::sinks::{Answers, Listing};
@@ -18,6 +18,7 @@ impl<'a> Answers for Listing<'a> {
     ghost took = { Listed };
 
     fn take(&mut self, block: &[u8; 32]) {
+        // no `get_mut`: after it the proof knows none of the slice's elements
         if self.len < self.blocks.len() {
             self.blocks[self.len] = *block;
             self.len += 1;

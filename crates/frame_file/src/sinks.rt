@@ -1,5 +1,5 @@
 // Where the answers of a run go: a sink that takes one block after another.
-ghost use Rattle.std.specs.Prelude.{◌≡◌, ℕ, ◌≤◌, List, length};
+ghost use Rattle.std.specs.Prelude.{ℕ, List};
 
 pub trait Answers {
     // what a block makes of the sink
@@ -12,6 +12,7 @@ pub trait Answers {
 // The blocks so far, in a table that is lent. What has no room is left out.
 #[derive(Drop)]
 pub struct Listing<'a> {
+    // the whole table with a count beside it: whoever lent it reads how many blocks it holds
     pub blocks: &'a mut [[u8; 32]],
     pub len: usize,
 }

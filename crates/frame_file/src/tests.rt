@@ -4,29 +4,9 @@ use analysis::records::{Entry, Vertex};
 use model::make;
 use sets::HalvedLinks;
 
-// How far the text of a block goes on with what is expected, or `None` if it does not.
-fn after(block: &[u8; 32], expected: &[u8], from: usize) -> Option<usize> {
-    let mut at = from;
-    for i in 0..32 {
-        if block[i] != 0 {
-            if at >= expected.len() || expected[at] != block[i] {
-                return None;
-            }
-            at += 1;
-        }
-    }
-    Some(at)
-}
-
+// Whether the texts of the blocks, one after another, are what is expected.
 fn told(blocks: &[[u8; 32]], expected: &[u8]) -> bool {
-    let mut at = 0;
-    for block in blocks {
-        match after(block, expected, at) {
-            Some(next) => at = next,
-            None => return false,
-        }
-    }
-    at == expected.len()
+    blocks.iter().flatten().filter(|b| **b != 0).eq(expected)
 }
 
 // Whether a run over room for 512 vertices, 3 entries and so many in the sets answers this.

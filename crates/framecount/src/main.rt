@@ -1,7 +1,7 @@
 // Reads a frame file from standard input and prints the answer to each of its lines.
 #![tactic(auto)]
 
-ghost use Rattle.std.specs.Prelude.{◌≡◌, ℕ, ◌+◌, ◌-◌, ◌<◌, ◌≤◌, List, IfOk, ◌≢◌, slice_index};
+ghost use Rattle.std.specs.Prelude.{◌≡◌, ℕ, ◌+◌, ◌-◌, ◌<◌, ◌≤◌, IfOk, ◌≢◌, slice_index};
 
 use analysis::records::{Entry, Vertex};
 use frame_file::{Answers, run_file};
@@ -19,12 +19,7 @@ fn text_len(block: &[u8; 32]) -> usize
     ensures before { (k : ℕ) → k + 1 < result → slice_index block.now k ≢ 10 }
     ensures found { result < 32 → slice_index block.now (result - 1) ≡ 10 }
 {
-    for i in 0..32 {
-        if block[i] == b'\n' {
-            return i + 1;
-        }
-    }
-    32
+    block.iter().position(|b| *b == b'\n').map_or(32, |i| i + 1)
 }
 
 // Prints the text of each block, and not the zeros after it. Once printing fails, nothing more is printed.
@@ -39,33 +34,25 @@ impl<'a> Answers for Printer<'a> {
 
     fn take(&mut self, block: &[u8; 32]) {
         if self.printed.is_ok() {
-            let mut out = self.rt.stdout();
-            self.printed = out.write_all(&block[0..text_len(block)]);
+            self.printed = self.rt.stdout().write_all(&block[..text_len(block)]);
         }
     }
 }
 
 // Fills the buffer from standard input, as far as that goes; answers how many bytes came.
-fn read_input(rt: &HostRuntime, buffer: &mut [u8; 32_769]) -> io::Result<usize>
+fn read_input(rt: &HostRuntime, buffer: &mut [u8; INPUT]) -> io::Result<usize>
     ensures { IfOk result (λ n. n ≤ 32769) }
 {
-    let mut input = rt.stdin();
-    let mut len = 0;
-    for _ in 0..INPUT {
-        let got = input.read(&mut buffer[len..INPUT])?;
-        if got == 0 {
-            break;
-        }
-        len += got;
-    }
-    Ok(len)
+    // `copy` doesn't say that no more comes than `take` lets through, so `min` does
+    let came = io::copy(&mut rt.stdin().take(INPUT as u64), &mut &mut buffer[..])?;
+    Ok((came as usize).min(INPUT))
 }
 
 fn main(rt: HostRuntime) -> io::Result<()> {
     let mut vertices = [Vertex::new(); 512];
     let mut entries = [Entry::new(); 2048];
     let mut links = [0u32; 512];
-    let mut input = [0u8; 32_769];
+    let mut input = [0u8; INPUT];
     let len = read_input(&rt, &mut input)?;
     let mut model = make(0, &mut vertices, &mut entries);
     let mut sets = HalvedLinks::new(&mut links);
@@ -73,7 +60,6 @@ fn main(rt: HostRuntime) -> io::Result<()> {
         rt: &rt,
         printed: Ok(()),
     };
-    run_file(&input[0..len], &mut model, &mut sets, &mut printer);
-    let Printer { rt: _, printed } = printer;
-    printed
+    run_file(&input[..len], &mut model, &mut sets, &mut printer);
+    printer.printed
 }
