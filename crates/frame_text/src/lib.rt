@@ -12,7 +12,7 @@ pub use answers::Answer;
 pub use faults::{FieldFault, LineFault, Report};
 pub use fields::Field;
 pub use lines::{FrameReader, Line};
-pub use records::{Kind, Question, Record};
+pub use records::{Kind, NoKind, Question, Record};
 
 #[cfg(test)]
 mod tests;
