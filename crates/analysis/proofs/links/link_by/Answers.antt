@@ -1,7 +1,7 @@
 use Rattle.std.proofs.Common.{refl, ◌∙◌, get_or, length, arith}
 use Rattle.analysis.specs.Tables.{with_head, pairs_of}
 use Rattle.analysis.proofs.Chains.{Ends, ends_at, linked_none, linked_more, pairs_kept}
-use Rattle.analysis.proofs.Changes.{head_takes, only_none, only_then, only_set, only_map}
+use Rattle.analysis.proofs.Changes.{head_takes, only_then, only_set, only_map}
 use Rattle.analysis.proofs.links.link_by.Goals as goal
 use Rattle.analysis.proofs.links.link_by.Goals.{After-end_of}
 
