@@ -54,7 +54,13 @@ counting_none p vs bs ws long wide ready is taken =
       };
     }
 
--- as counting begins: a row count and a weight for each vertex, less by its children
+-- What counting begins with, the vertices ws: of them only the counts have changed, and none is counted.
+pub record Begun (es : List Entry) (vs ws : List Vertex) : Type 0 where
+  pub only : Only counts_from vs ws
+  pub prepared : Prepared ws es
+  pub counting : Counting (pattern_in ws es) 0 ws
+
+-- each vertex has a row count and a weight, less by its children
 module _ (es : List Entry) (vs bs : List Vertex) (prepared : Prepared vs es) (is : bs ≡ map uncounted vs)
     (wide : length vs ≡ length bs) where
   begun_only : Only counts_from vs bs
@@ -63,19 +69,16 @@ module _ (es : List Entry) (vs bs : List Vertex) (prepared : Prepared vs es) (is
   pub begun_prepared : Prepared bs es
   begun_prepared = prepared_only vs bs es wide begun_only prepared
 
-  module _ (ws : List Vertex) (taken : ChildrenTaken (length bs) bs ws) (long : length bs ≡ length ws) where
-    pub taken_all : Only counts_from vs ws
-    taken_all = only_then counts_takes vs bs ws begun_only (taken_only (length bs) bs ws taken)
-
-    pub taken_prepared : Prepared ws es
-    taken_prepared = prepared_only vs ws es (omega arith) taken_all prepared
-
-    pub counting_first : Counting (pattern_in ws es) 0 ws
-    counting_first =
-        let n = length ws in
-        counting_none (pattern_in ws es) vs bs ws (omega arith) (omega arith)
-        (subst (λ m. Ready (pattern_of m es) bs) long begun_prepared.tree) is
-        (subst (λ m. ChildrenTaken m bs ws) long taken)
+  pub taken_begun : (ws : List Vertex) → ChildrenTaken (length bs) bs ws → length bs ≡ length ws → Begun es vs ws
+  taken_begun ws taken long =
+      let both = only_then counts_takes vs bs ws begun_only (taken_only (length bs) bs ws taken) in
+      record {
+        only = both;
+        prepared = prepared_only vs ws es (omega arith) both prepared;
+        counting = counting_none (pattern_in ws es) vs bs ws (omega arith) (omega arith)
+            (subst (λ m. Ready (pattern_of m es) bs) long begun_prepared.tree) is
+            (subst (λ m. ChildrenTaken m bs ws) long taken);
+      }
 
 sum_wraps : (f g : ℕ → ℤ) (xs : List ℕ) → ((x : ℕ) → occurs x xs ≡ true → Same64 (f x) (g x)) →
     Same64 (sum_ℤ f xs) (sum_ℤ g xs)

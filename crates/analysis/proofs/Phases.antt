@@ -1,6 +1,6 @@
 -- The phases of an analysis put together: what one leaves, the later ones keep. Linking the entries anew keeps their
 -- pairs, so the pattern is the same throughout.
-use Rattle.std.proofs.Common.{◌≡◌, ℕ, ◌+◌, ◌-◌, ◌≤◌, List, ◌++◌, length, sym, refl, ap, ◌∙◌, subst, ap₂, arith}
+use Rattle.std.proofs.Common.{◌≡◌, ℕ, ◌+◌, ◌-◌, ◌≤◌, List, ◌++◌, length, sym, ap, ◌∙◌, subst, ap₂, arith}
 use Rattle.std.proofs.lemmas.List.{get_or_append_left}
 use Rattle.pattern.specs.Patterns.{Pattern}
 use Rattle.pattern.specs.Analysis.{height_of}
@@ -16,44 +16,52 @@ use Rattle.analysis.specs.Analysed.{Answered}
 pub same_pattern : (n m : ℕ) (es fs : List Entry) → m ≡ n → pairs_of fs ≡ pairs_of es → pattern_of m fs ≡ pattern_of n es
 same_pattern n m es fs long same = ap₂ (λ k ps. record { order = k; entries = ps }) long same
 
--- the entries linked by their higher ends, then by their lower ends; the vertices as linked first, once the tree is
--- grown, once they are in order, and once their lists are those of the lower ends
-module _ (n : ℕ) (fs gs : List Entry) (begun grown ordered listed : List Vertex) (long : length begun ≡ n)
-    (wide : length grown ≡ n) (same : pairs_of gs ≡ pairs_of fs) (tree : Tree (pattern_in begun fs) grown)
-    (order : (p : Pattern) → ParentsOf p (length grown) grown → OrderedAs p ordered)
-    (a : Only order_from grown ordered) (b : Only head_from ordered listed) where
-  own_tree : Tree (pattern_of n gs) grown
-  own_tree = subst (λ p. Tree p grown) (sym (same_pattern (length begun) n fs gs (sym long) same)) tree
+-- the tree of the pattern and all that it alone gives are in the table
+pub record Settled (p : Pattern) (vs : List Vertex) : Type 0 where
+  pub tree : Tree p vs
+  pub order : OrderedAs p vs
 
-  own_order : OrderedAs (pattern_of n gs) ordered
-  own_order = order (pattern_of n gs) (record { order = wide; parents = λ v p q. own_tree.parents v p (omega arith) })
+-- So it is of the entries linked by their higher ends, and then by their lower ends, and of the vertices linked so
+-- first, once the tree is grown, once they are in order, and once they are linked anew.
+pub settled : (fs gs : List Entry) (begun grown ordered listed : List Vertex) →
+    length begun ≡ length listed → length grown ≡ length listed → pairs_of gs ≡ pairs_of fs →
+    Tree (pattern_in begun fs) grown → ((p : Pattern) → ParentsOf p (length grown) grown → OrderedAs p ordered) →
+    Only order_from grown ordered → Only head_from ordered listed → Settled (pattern_in listed gs) listed
+settled fs gs begun grown ordered listed long wide same tree order a b =
+    let p = pattern_in listed gs in
+    let parents : Tree p grown =
+    subst (λ q. Tree q grown) (sym (same_pattern (length begun) (length listed) fs gs (sym long) same)) tree in
+    let own = order p (record { order = wide; parents = λ v q r. parents.parents v q (omega arith) }) in
+    record {
+      tree = record {
+        parents = λ v q r. ap (λ x. x.parent) (b v) ∙ ap (λ x. x.parent) (a v) ∙ parents.parents v q r;
+      };
+      order = record {
+        levels = λ v q r. ap (λ x. x.level) (b v) ∙ own.levels v q r;
+        places = λ v q r. ap (λ x. x.place) (b v) ∙ own.places v q r;
+        walk = λ k q r. ap (λ x. x.at) (b k) ∙ own.walk k q r;
+        firsts = λ v q r. ap (λ x. x.first.0) (b v) ∙ own.firsts v q r;
+        heights = λ v q r.
+            ap (λ l. l + height_of p v) (ap (λ x. x.level) (b v)) ∙ own.heights v q r
+            ∙ sym (ap (λ x. x.deepest.0) (b v));
+      };
+    }
 
-  -- the tree is in the table
-  pub ready : Ready (pattern_of n gs) listed
-  ready = record {
-    parents = λ v some fits. ap (λ x. x.parent) (b v) ∙ ap (λ x. x.parent) (a v) ∙ own_tree.parents v some fits;
-    levels = λ v some fits. ap (λ x. x.level) (b v) ∙ own_order.levels v some fits;
-    walk = λ k some fits. ap (λ x. x.at) (b k) ∙ own_order.walk k some fits;
-  }
+-- then all is ready to be counted
+pub ready : (p : Pattern) (vs : List Vertex) → Settled p vs → Ready p vs
+ready p vs s = record { parents = s.tree.parents; levels = s.order.levels; walk = s.order.walk }
 
-  -- and once it is, every question is answered
-  module _ (counted : List Vertex) (c : Only counts_from listed counted) (counts : Counted (pattern_of n gs) counted) where
-    kept : {X : Type 0} (field : Vertex → X) →
-        ((x y : Vertex) → field (head_from x y) ≡ field x) → ((x y : Vertex) → field (counts_from x y) ≡ field x) →
-        (v : ℕ) → field (vertex counted v) ≡ field (vertex ordered v)
-    kept field heads counting v =
-        ap field (c v) ∙ counting (vertex listed v) (vertex counted v)
-        ∙ ap field (b v) ∙ heads (vertex ordered v) (vertex listed v)
-
-    pub answered : Answered (pattern_of n gs) counted
-    answered = record {
-      parents = λ v some fits.
-          kept (λ x. x.parent) (λ _ _. refl) (λ _ _. refl) v ∙ ap (λ x. x.parent) (a v) ∙ own_tree.parents v some fits;
-      places = λ v some fits. kept (λ x. x.place) (λ _ _. refl) (λ _ _. refl) v ∙ own_order.places v some fits;
-      firsts = λ v some fits. kept (λ x. x.first.0) (λ _ _. refl) (λ _ _. refl) v ∙ own_order.firsts v some fits;
-      heights = λ v some fits.
-          ap (λ l. l + height_of (pattern_of n gs) v) (kept (λ x. x.level) (λ _ _. refl) (λ _ _. refl) v)
-          ∙ own_order.heights v some fits ∙ sym (kept (λ x. x.deepest.0) (λ _ _. refl) (λ _ _. refl) v);
+-- and once it is, every question is answered
+pub answered : (p : Pattern) (vs ws : List Vertex) →
+    Settled p vs → Only counts_from vs ws → Counted p ws → Answered p ws
+answered p vs ws s only counts =
+    record {
+      parents = λ v q r. ap (λ x. x.parent) (only v) ∙ s.tree.parents v q r;
+      places = λ v q r. ap (λ x. x.place) (only v) ∙ s.order.places v q r;
+      firsts = λ v q r. ap (λ x. x.first.0) (only v) ∙ s.order.firsts v q r;
+      heights = λ v q r.
+          ap (λ l. l + height_of p v) (ap (λ x. x.level) (only v)) ∙ s.order.heights v q r
+          ∙ sym (ap (λ x. x.deepest.0) (only v));
       rows = counts.rows;
       columns = counts.columns;
     }

@@ -2,9 +2,9 @@
 ghost use Rattle.std.specs.Prelude.{◌≡◌, ◌-◌, ◌≤◌, map, length};
 ghost use Rattle.pattern.specs.Patterns.{Pattern};
 ghost use Rattle.pattern.specs.Elimination as elimination;
-ghost use Rattle.pattern.specs.Forest.{Grows};
 ghost use Rattle.analysis.specs.Tables.{parent_of, Only, counts_from};
 ghost use Rattle.analysis.specs.Growth.{pattern_in, Fresh};
+ghost use Rattle.analysis.specs.Order.{Forest};
 ghost use Rattle.analysis.specs.Counts.{place_in, Prepared, Counted, Counting, Passed, TopsAreRoots, SameTops};
 ghost use Rattle.analysis.specs.Counts.{uncounted, weighed, child_taken, ChildrenTaken};
 ghost use Rattle.analysis.specs.Counts.{Climbs, lengthened, meets_at, EntryCounted, column_of};
@@ -51,8 +51,7 @@ fn take_child(v: usize, vertices: &mut [Vertex])
 
 // Takes one off the parent's weight for each vertex.
 fn take_children(vertices: &mut [Vertex])
-    requires few { length vertices.old ≤ 16384 }
-    requires grows { Grows (length vertices.old) (parent_of vertices.old) }
+    requires { Forest vertices.old }
     ensures { ChildrenTaken (length vertices.old) vertices.old vertices.new }
 {
     for v in 1..=vertices.len() {

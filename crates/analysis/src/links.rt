@@ -15,7 +15,7 @@ fn end_of(which: End, entry: Entry) -> u32
     }
 }
 
-// Empties the list of each vertex.
+// Empties the list of each vertex. A loop, as where a tree and the counts begin: a closure would say no more.
 fn clear_heads(vertices: &mut [Vertex])
     ensures { vertices.new ≡ map (λ x. with_head x 0) vertices.old }
 {

@@ -1,11 +1,11 @@
 // The elimination tree by ancestor sets: row u puts the trees that u's lower neighbours are in below u.
 ghost use Rattle.std.specs.Prelude.{◌≡◌, ◌-◌, ◌≤◌, map, length};
-ghost use Rattle.pattern.specs.Forest.{Grows};
 ghost use Rattle.analysis.specs.declared.records.End.{End};
 ghost use Rattle.analysis.specs.declared.records.End.TheVariants.{High};
 ghost use Rattle.analysis.specs.Tables.{parent_of, with_parent, parent_from, Only};
 ghost use Rattle.analysis.specs.Links.{Listed};
 ghost use Rattle.analysis.specs.Growth.{pattern_in, Fresh, Grown, Adopted, adopted, Tree, Rooted};
+ghost use Rattle.analysis.specs.Order.{Forest};
 
 use crate::records::{Entry, Vertex};
 use sets::AncestorSets;
@@ -64,7 +64,7 @@ pub fn grow<S: AncestorSets>(vertices: &mut [Vertex], entries: &[Entry], sets: &
     ensures roots { Rooted (pattern_in vertices.old entries.now) (S.meaning sets.new) }
     ensures used { (S.meaning sets.new).used ≡ length vertices.old }
     ensures size { (S.meaning sets.new).size ≡ (S.meaning sets.old).size }
-    ensures grows { Grows (length vertices.old) (parent_of vertices.new) }
+    ensures forest { Forest vertices.new }
     ensures only { Only parent_from vertices.old vertices.new }
 {
     begin_tree(vertices);

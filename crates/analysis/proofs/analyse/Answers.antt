@@ -1,27 +1,28 @@
-use Rattle.std.proofs.Common.{refl, ap, ◌∙◌, subst, arith, rules, length, drop}
+use Rattle.std.proofs.Common.{ap, ◌∙◌, subst, arith, rules, length, drop}
 use Rattle.std.proofs.lemmas.List.{length-take-le}
 use Rattle.pattern.specs.Elimination as elimination
 use Rattle.analysis.specs.Growth.{pattern_of, pattern_in}
-use Rattle.analysis.specs.Counts.{Ready, Counted, TopsAreRoots}
+use Rattle.analysis.specs.Counts.{TopsAreRoots}
 use Rattle.analysis.specs.Analysed.{Answered}
-use Rattle.analysis.proofs.Changes.{at_equal}
-use Rattle.analysis.proofs.Phases.{same_pattern, ready, answered, answered_front}
+use Rattle.analysis.proofs.Phases.{same_pattern, Settled, settled, ready, answered, answered_front}
+use Rattle.analysis.proofs.analyse.Given as given
 use Rattle.analysis.proofs.analyse.Goals as goal
+use Rattle.analysis.proofs.analyse.Goals.{After-link_by-2}
+
+-- once the entries are linked anew
+listed : (g : given.Over) (c : After-link_by-2 g) →
+    Settled (pattern_in c.link_by-2.new.vertices c.link_by-2.new.entries) c.link_by-2.new.vertices
+listed g c =
+    settled _ _ _ _ _ _ (omega arith) (omega arith) c.link_by-2.ensures.pairs c.grow.ensures.tree
+    c.order.ensures.answers c.order.ensures.only c.link_by-2.ensures.only
 
 pub count-requires-clause-prepared : goal.count-requires-clause-prepared
 count-requires-clause-prepared g c =
-    let n = c.args.n in
-    let vs = c.link_by-2.new.vertices in
-    let gs = c.link_by-2.new.entries in
-    let front = length-take-le n c.args.vertices.now c.requires.within in
+    let front = length-take-le c.args.n c.args.vertices.now c.requires.within in
     record {
       few = omega arith;
       lists = c.link_by-2.ensures.lists;
-      tree = at_equal (λ m. Ready (pattern_of m gs))
-          (ready n c.link_by.new.entries gs c.link_by.new.vertices c.grow.new.vertices c.order.new.vertices vs
-          (omega arith) (omega arith) c.link_by-2.ensures.pairs c.grow.ensures.tree
-          c.order.ensures.answers c.order.ensures.only c.link_by-2.ensures.only)
-          (omega arith);
+      tree = ready _ _ (listed g (goal.at.count-requires-clause-prepared g c).After-link_by-2);
     }
 
 pub returns : goal.returns
@@ -34,17 +35,14 @@ returns g c =
     let front = length-take-le n c.args.vertices.now c.requires.within in
     let pairs = c.link_by-2.ensures.pairs ∙ c.link_by.ensures.pairs in
     let same = same_pattern n (length vs) es gs (omega arith) pairs in
+    let all = answered _ _ _ (listed g (goal.at.returns g c).After-link_by-2) c.count.ensures.only
+    c.count.ensures.counted in
     record {
       room = search rules;
       pairs = pairs;
       size = search rules;
       tops = subst (λ p. TopsAreRoots p (g.S.AncestorSets.meaning c.count.new.sets)) same c.count.ensures.tops;
       answers = answered_front (pattern_of n es) counted (drop n c.args.vertices.now) (omega arith)
-          (subst (λ p. Answered p counted) (same_pattern n n es gs refl pairs)
-          (answered n c.link_by.new.entries gs c.link_by.new.vertices c.grow.new.vertices c.order.new.vertices vs
-          (omega arith) (omega arith) c.link_by-2.ensures.pairs c.grow.ensures.tree
-          c.order.ensures.answers c.order.ensures.only c.link_by-2.ensures.only
-          counted c.count.ensures.only
-          (at_equal (λ m. Counted (pattern_of m gs)) c.count.ensures.counted (omega arith))));
+          (subst (λ p. Answered p counted) same all);
       sums = c.total.ensures (pattern_in vs gs) (omega arith) c.count.ensures.counted ∙ ap elimination.total same;
     }

@@ -1,11 +1,14 @@
-use Rattle.std.proofs.Common.{ap, refl, ◌∙◌, sym, subst, arith}
+use Rattle.std.proofs.Common.{◌-◌, ap, refl, ◌∙◌, sym, subst, arith}
 use Rattle.analysis.specs.declared.records.End.TheVariants.{Low}
 use Rattle.analysis.specs.Growth.{pattern_in}
+use Rattle.analysis.specs.Counts.{Ready, TopsAt, place_in}
 use Rattle.analysis.proofs.Changes.{at_equal, counts_takes, only_none, only_then}
-use Rattle.analysis.proofs.Chains.{Met, met_head, links_fall, met_link, link_newest, upper_at, step_taken}
-use Rattle.analysis.proofs.CountedEvents.{CountingAt, head_newest, counting_head, counting_next, counting_end}
+use Rattle.analysis.proofs.Chains.{Met, Taken, met_head, links_fall, met_link, link_newest, upper_at, step_taken}
+use Rattle.analysis.proofs.CountedEvents.{AtEntry, CountingAt, head_newest, counting_head, counting_next, counting_end}
 use Rattle.analysis.proofs.CountedEvents.{ready_only, at_entry, event_more, climbs, tallied_more, tops_same}
+use Rattle.analysis.proofs.counts.count_neighbours.Given as given
 use Rattle.analysis.proofs.counts.count_neighbours.Goals as goal
+use Rattle.analysis.proofs.counts.count_neighbours.Goals.{In-Some}
 
 pub neighbours-entry-items-requires : goal.neighbours-entry-items-requires
 neighbours-entry-items-requires g c =
@@ -28,41 +31,52 @@ loop-entry-init g c =
       tops = record { size = refl; used = refl; tops = λ _. refl };
     }
 
+-- the entry taken from the list of x, and what is so before it is counted
+taken : (g : given.Over) (c : In-Some g) →
+    Taken c.args.entries.now c.loop-entry.entry-iterator.at c.in-Some.entry c.next.new.self.at
+taken g c = step_taken _ _ _ _ _ _ c.loop-entry.invariant.same c.in-Some.ensures.steps
+
+at : (g : given.Over) (c : In-Some g) →
+    AtEntry (pattern_in c.args.vertices.now c.args.entries.now) c.args.x c.in-Some.entry.high
+    c.loop-entry.entry-iterator.at
+at g c = at_entry _ _ _ _ _ _ c.requires.prepared.lists.sound c.loop-entry.invariant.met (taken g c)
+
+tree : (g : given.Over) (c : In-Some g) →
+    Ready (pattern_in c.args.vertices.now c.args.entries.now) c.loop-entry.vertices
+tree g c = ready_only _ _ _ c.loop-entry.invariant.only c.requires.prepared.tree
+
+tops : (g : given.Over) (c : In-Some g) →
+    TopsAt (pattern_in c.args.vertices.now c.args.entries.now)
+    (place_in c.args.vertices.now c.args.entries.now c.args.x - 1) (g.S.AncestorSets.meaning c.loop-entry.sets)
+tops g c = tops_same _ _ _ _ c.loop-entry.invariant.tops c.requires.before.tops
+
 pub count_entry-requires : goal.count_entry-requires
 count_entry-requires g c =
-    let p = pattern_in c.args.vertices.now c.args.entries.now in
+    let some = (goal.at.count_entry-requires g c).In-Some in
     let i = c.loop-entry.invariant in
-    let taken = step_taken _ _ _ _ _ _ i.same c.in-Some.ensures.steps in
-    let u = upper_at _ _ _ _ _ _ c.requires.prepared.lists.sound i.met taken in
-    let tops = tops_same p _ _ _ i.tops c.requires.before.tops in
-    let used = tops.used in
-    let ready = ready_only p _ c.loop-entry.vertices i.only c.requires.prepared.tree in
-    let at = at_entry _ _ _ _ _ _ c.requires.prepared.lists.sound i.met taken in
-    let new = event_more p _ _ _ _ at i.counting in
+    let u = upper_at _ _ _ _ _ _ c.requires.prepared.lists.sound i.met (taken g some) in
+    let used = (tops g some).used in
     record {
       met = (c.requires.from, omega arith);
       row = (omega arith, omega arith);
       room = omega arith;
-      climbs = climbs p _ _ _ _ _ ready i.counting.tallied tops new c.requires.prepared.few;
+      climbs = climbs _ _ _ _ _ _ (tree g some) i.counting.tallied (tops g some)
+          (event_more _ _ _ _ _ (at g some) i.counting) c.requires.prepared.few;
     }
 
 pub loop-entry-preserved : goal.loop-entry-preserved
 loop-entry-preserved g c =
-    let p = pattern_in c.args.vertices.now c.args.entries.now in
+    let some = (goal.at.loop-entry-preserved g c).In-Some in
     let i = c.loop-entry.invariant in
-    let lists = c.requires.prepared.lists in
-    let taken = step_taken _ _ _ _ _ _ i.same c.in-Some.ensures.steps in
-    let tops = tops_same p _ _ _ i.tops c.requires.before.tops in
-    let ready = ready_only p _ c.loop-entry.vertices i.only c.requires.prepared.tree in
-    let at = at_entry _ _ _ _ _ _ lists.sound i.met taken in
-    let new = event_more p _ _ _ _ at i.counting in
+    let lists = c.requires.prepared.lists.lists in
     let after = c.count_entry.ensures in
     record {
       same = c.in-Some.ensures.steps.entries ∙ i.same;
-      met = met_link _ _ _ _ _ _ _ _ lists.lists i.met taken;
-      counting = counting_next p _ _ _ _ at i.counting _ _
-          (link_newest _ _ _ _ _ _ _ _ lists.lists i.met taken)
-          (tallied_more p _ _ _ _ _ ready i.counting.tallied tops new _ after.counted);
+      met = met_link _ _ _ _ _ _ _ _ lists i.met (taken g some);
+      counting = counting_next _ _ _ _ _ (at g some) i.counting _ _
+          (link_newest _ _ _ _ _ _ _ _ lists i.met (taken g some))
+          (tallied_more _ _ _ _ _ _ (tree g some) i.counting.tallied (tops g some)
+          (event_more _ _ _ _ _ (at g some) i.counting) _ after.counted);
       only = only_then counts_takes _ _ _ i.only after.only;
       tops = record {
         size = after.tops.size ∙ i.tops.size;

@@ -23,7 +23,12 @@ returns-2-clause-roots g c =
     let p = pattern_in c.args.vertices.now c.args.entries.now in
     rows_rooted p _ _ (rows_all _ _ _ _ _ _ (omega arith) (omega arith) c.adopt_row.ensures.done)
 
-pub returns-2-clause-grows : goal.returns-2-clause-grows
-returns-2-clause-grows g c =
-    let p = pattern_in c.args.vertices.now c.args.entries.now in
-    tree_grows p _ (rows_tree p _ _ (rows_all _ _ _ _ _ _ (omega arith) (omega arith) c.adopt_row.ensures.done))
+pub returns-2-clause-forest : goal.returns-2-clause-forest
+returns-2-clause-forest g c =
+    let vs = c.adopt_row.new.vertices in
+    let p = pattern_in vs c.args.entries.now in
+    record {
+      few = omega arith;
+      grows = tree_grows p vs
+          (rows_tree p vs _ (rows_all _ _ _ _ _ _ (omega arith) (omega arith) c.adopt_row.ensures.done));
+    }
