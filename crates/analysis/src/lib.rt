@@ -24,7 +24,8 @@ use crate::tree::grow;
 use sets::{AncestorSets, NoRoom};
 
 // Analyses the pattern of the entries, of order n: fills in the vertex records 1 to n and answers the sum of the
-// column counts, or refuses, changing nothing, if the sets have no room for n.
+// column counts, or refuses, changing nothing, if the sets have no room for n. The tables and the sets are passed on
+// each by itself: of lent tables held by a struct, no proof knows what they come to.
 pub fn analyse<S: AncestorSets>(
     n: u32,
     vertices: &mut [Vertex],

@@ -2,7 +2,8 @@
 ghost use Rattle.std.specs.Prelude.{◌≡◌, ◌-◌, ◌<◌, ◌≤◌, length, pos};
 ghost use Rattle.pattern.specs.Patterns.{Pattern};
 ghost use Rattle.analysis.specs.Tables.{vertex, parent_of, with_place, with_last, Only};
-ghost use Rattle.analysis.specs.Tables.{level_from, weight_from, place_from, at_from, first_from, deepest_from, order_from};
+ghost use Rattle.analysis.specs.Tables.{level_from, weight_from, place_from, at_from, first_from, deepest_from};
+ghost use Rattle.analysis.specs.Tables.{order_from};
 ghost use Rattle.analysis.specs.Order.{Forest, level_under, size_in, next_place, taken, free_after, noted};
 ghost use Rattle.analysis.specs.Order.{Levelled, Sized, Placed, Walked, FirstPlaced, Sounded};
 ghost use Rattle.analysis.specs.Order.{Ordered, ParentsOf, OrderedAs};

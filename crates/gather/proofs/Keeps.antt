@@ -1,14 +1,13 @@
 -- Lists of vertices that pass a test.
-use Rattle.std.proofs.Common.{◌≡◌, ℕ, Bool, false, cond, eqb, List, [], ◌∷◌, sym, refl, ap, ◌∙◌, ap₂}
+use Rattle.std.proofs.Common.{◌≡◌, ℕ, Bool, false, eqb, List, [], ◌∷◌, sym, refl, ap, ◌∙◌}
 use mathlib.Core.Bool.{or-false}
+use mathlib.Core.Path.{fun_ext}
 use Rattle.pattern.specs.Lists.{upto, keep}
 use Rattle.pattern.proofs.Tests.{Vertex}
 use Rattle.pattern.proofs.Lists.{keep_none, keep_own}
 
 pub keep_same : (p q : ℕ → Bool) → ((x : ℕ) → p x ≡ q x) → (xs : List ℕ) → keep p xs ≡ keep q xs
-unfolding keep
-keep_same p q same [] = refl
-keep_same p q same (x ∷ xs) = ap₂ (λ b l. cond b (x ∷ l) l) (same x) (keep_same p q same xs)
+keep_same p q same xs = ap (λ test. keep test xs) (fun_ext same)
 
 -- of the numbers from 1 to n only v is v
 pub keep_alone : (n v : ℕ) → Vertex n v → keep (λ x. eqb x v) (upto n) ≡ v ∷ []

@@ -24,8 +24,8 @@ fn join_up<J: Joining + Copy, N: Node<J>>(nodes: &mut [N], v: usize)
     }
 }
 
-// Gathers over the forest of the records' vertices, numbered from 1. A parent has a greater number than its children, so
-// that each value is complete when it is joined into the parent's.
+// Gathers over the forest of the records' vertices, numbered from 1. A parent has a greater number than its children,
+// so that each value is complete when it is joined into the parent's.
 pub fn gather<J: Joining + Copy, N: Node<J>>(nodes: &mut [N])
     requires grows { Grows (length nodes.old) (field_of N.blank N.above nodes.old) }
     ensures { Gathered J.nothing J.joined N.blank N.above N.held N.holding (length nodes.old) nodes.old nodes.new }

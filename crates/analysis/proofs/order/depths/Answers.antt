@@ -5,5 +5,6 @@ use Rattle.analysis.proofs.order.depths.Goals as goal
 pub returns : goal.returns
 returns c =
     let (depths, only) =
-    depths_gathered c.requires.forest (omega arith) (λ x j given. search rules) c.gather_from.ensures c.requires.levels in
+    depths_gathered c.requires.forest (omega arith) (λ x j given. search rules)
+    c.gather_from.ensures c.requires.levels in
     record { depths = depths; only = only }

@@ -5,7 +5,8 @@ use Rattle.gather.proofs.Begins.{begun_more}
 use Rattle.gather.proofs.gathering.begin.Goals as goal
 
 pub loop-node-init : goal.loop-node-init
-loop-node-init g c = (record { only = λ v p q. absurd (omega arith); given = λ v p q. absurd (omega arith) }, λ _ _. refl)
+loop-node-init g c =
+    (record { only = λ v p q. absurd (omega arith); given = λ v p q. absurd (omega arith) }, λ _ _. refl)
 
 pub loop-node-preserved : goal.loop-node-preserved
 loop-node-preserved g c =
@@ -17,5 +18,7 @@ loop-node-preserved g c =
 
 pub returns : goal.returns
 returns g c =
-    subst (λ k. Begun (FnReturnsAt g.F.Fn c.args.start) g.N.Child.blank g.N.Node.held g.N.Node.holding k c.args.nodes.now c.loop-node.nodes)
+    subst
+    (λ k. Begun (FnReturnsAt g.F.Fn c.args.start) g.N.Child.blank g.N.Node.held g.N.Node.holding k
+    c.args.nodes.now c.loop-node.nodes)
     (omega arith) c.loop-node.invariant.0

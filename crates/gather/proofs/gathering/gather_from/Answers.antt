@@ -21,10 +21,14 @@ begun g c = record {
 pub gather-requires : goal.gather-requires
 gather-requires g c =
     let grows = begun_grows g.met.N.Node.laws (begun g (goal.at.gather-requires g c).After-begin) c.requires.grows in
-    record { grows = subst (λ k. Grows k (field_of g.N.Child.blank g.N.Child.above c.begin.new.nodes)) (omega arith) grows }
+    record {
+      grows = subst (λ k. Grows k (field_of g.N.Child.blank g.N.Child.above c.begin.new.nodes)) (omega arith) grows;
+    }
 
 pub returns : goal.returns
 returns g c =
     gathered_from g.met.N.Node.laws (begun g (goal.at.returns g c).After-begin) c.requires.grows
-    (subst (λ k. Gathered g.J.Joining.nothing g.J.Joining.joined g.N.Child.blank g.N.Child.above g.N.Node.held g.N.Node.holding k
-    c.begin.new.nodes c.gather.new.nodes) (omega arith) c.gather.ensures)
+    (subst
+    (λ k. Gathered g.J.Joining.nothing g.J.Joining.joined g.N.Child.blank g.N.Child.above g.N.Node.held
+    g.N.Node.holding k c.begin.new.nodes c.gather.new.nodes)
+    (omega arith) c.gather.ensures)
