@@ -1,8 +1,8 @@
 -- The stages of a line's reading, as the code takes them.
-use Rattle.std.proofs.Common.{◌≡◌, ℕ, ◌<◌, ◌≤◌, Bool, true, false, cond, eqb, List, [], ◌∷◌, length, get_or, Ok, Err, IsOkAnd, MatchResult, Result, refl, ap, arith}
+use Rattle.std.proofs.Common.{◌≡◌, ℕ, ◌<◌, ◌≤◌, Bool, true, false, cond, eqb, List, [], ◌∷◌, length, get_or, drop, Ok, Err, IsOkAnd, MatchResult, Result, refl, ap, inl, inr, arith}
 use Rattle.std.specs.List.{onto_first}
 use Rattle.std.specs.Result.{result_map_both}
-use Rattle.std.proofs.lemmas.Bool.{le-ltb}
+use Rattle.std.proofs.lemmas.Bool.{ne_eqb, le-ltb, cases_eq}
 use Rattle.frame_text.specs.declared.faults.FieldFault.{FieldFault}
 use Rattle.frame_text.specs.declared.faults.LineFault.{LineFault}
 use Rattle.frame_text.specs.declared.faults.LineFault.TheVariants as in_line
@@ -14,7 +14,7 @@ use Rattle.frame_text.specs.declared.records.Record.{Record}
 use Rattle.frame_text.specs.Fields.{fields, is_number}
 use Rattle.frame_text.specs.Parts.{pair_of, second, third, one_field, two_fields, two_numbers}
 use Rattle.frame_text.specs.Records.{Part, Statement, part_of, statement_of, stated, puts, drops, numbered, operands, by_fields}
-use Rattle.frame_text.specs.Records.{by_count, by_letter, reading}
+use Rattle.frame_text.specs.Records.{kind_of, by_count, by_kind, by_letter, reading}
 
 pub some_field : (bs : List ℕ) → 0 < length (fields bs)
 some_field [] = omega arith
@@ -98,6 +98,14 @@ puts_two line fs = through _ (eqb (length fs) 2) (is_number (get_or fs 0 [])) (i
 
 pub drops_two : (line : ℕ) (fs : List (List ℕ)) → with_two drops (two_numbers line fs) ≡ by_count line Drop fs
 drops_two line fs = through _ (eqb (length fs) 2) (is_number (get_or fs 0 [])) (is_number (get_or fs 1 [])) _ _ _ _
+
+-- a letter and a comma, with the fields of the rest; where the letter is itself a comma, field 1 is empty
+pub letter_comma : (line : ℕ) (bs rest : List ℕ) → rest ≡ drop 2 bs → 2 ≤ length bs → get_or bs 1 0 ≡ 44 →
+    by_kind line (kind_of (get_or bs 0 0)) (fields rest) ≡ by_letter line (fields bs)
+letter_comma line [] rest is long comma = absurd (omega arith)
+letter_comma line (b ∷ []) rest is long comma = absurd (omega arith)
+letter_comma line (b ∷ c ∷ bs) rest is long comma =
+    rw (is, comma) (elim (cases_eq b 44) [ inl e ↦ rw e | inr ne ↦ rw (ne_eqb b 44 ne) ])
 
 pub whole_line : (line : ℕ) (bs : List ℕ) (ended : Bool) → length bs ≤ 64 → ended ≡ true →
     by_letter line (fields bs) ≡ reading line bs ended

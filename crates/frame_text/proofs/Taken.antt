@@ -8,8 +8,8 @@ use Rattle.std.proofs.lemmas.Bool.{ne_eqb}
 use Rattle.std.proofs.lemmas.Iterator.{YieldsList}
 use Rattle.frame_text.specs.declared.records.Kind.{Kind}
 use Rattle.frame_text.specs.declared.records.Kind.TheVariants.{Make, Put, Drop, Analyse, Ask}
-use Rattle.frame_text.specs.Parts.{before_fields, kind_in}
-use Rattle.frame_text.specs.Records.{letter, by_count, by_kind, by_letter}
+use Rattle.frame_text.specs.Parts.{before_fields}
+use Rattle.frame_text.specs.Records.{by_count, by_kind}
 
 -- a call hands out the first of the fields that are left
 pub taken : {F : Type 0} (g : Mut F (Bor ℕ × Unit {0}) Bool) (s t : Split ℕ F) (r : Option (Bor (List ℕ)))
@@ -29,21 +29,17 @@ one_more n None (f ∷ fs) rest e same = absurd (let z : ◌≡◌ {A = ℕ} 0 1
 one_more n (Some x) [] rest e same = absurd (let z : ◌≡◌ {A = ℕ} 0 1 = cc in omega arith)
 one_more n (Some x) (f ∷ fs) rest e same = let first : x.now ≡ f = cc in ap (λ h. h ∷ rest) first ∙ ap (λ t. f ∷ t) same
 
--- a line by the field that is handed out first
-pub by_first : (line : ℕ) (o : Option (Bor (List ℕ))) (fs : List (List ℕ)) →
-    option_map (λ x. x.now) o ≡ slice_get fs 0 → by_kind line (kind_in o) (drop 1 fs) ≡ by_letter line fs
-by_first line None [] e = refl
-by_first line None (f ∷ fs) e = absurd (let z : ◌≡◌ {A = ℕ} 0 1 = cc in omega arith)
-by_first line (Some x) [] e = absurd (let z : ◌≡◌ {A = ℕ} 0 1 = cc in omega arith)
-by_first line (Some x) (f ∷ fs) e = let first : x.now ≡ f = cc in ap (λ g. by_kind line (letter g) fs) first
-
 -- no kind has more than two fields after its letter
-pub three_do : (line : ℕ) (kind : Kind) (fs : List (List ℕ)) → by_count line kind (take 3 fs) ≡ by_count line kind fs
-three_do line kind [] = refl
-three_do line kind (f ∷ []) = refl
-three_do line kind (f ∷ g ∷ []) = refl
-three_do line Make (f ∷ g ∷ h ∷ hs) = rw (ne_eqb (suc (suc (suc (length hs)))) 2 (λ e. omega arith)) refl
-three_do line Put (f ∷ g ∷ h ∷ hs) = rw (ne_eqb (suc (suc (suc (length hs)))) 2 (λ e. omega arith)) refl
-three_do line Drop (f ∷ g ∷ h ∷ hs) = rw (ne_eqb (suc (suc (suc (length hs)))) 2 (λ e. omega arith)) refl
-three_do line Analyse (f ∷ g ∷ h ∷ hs) = rw (ne_eqb (suc (suc (suc (length hs)))) 0 (λ e. omega arith)) refl
-three_do line (Ask question) (f ∷ g ∷ h ∷ hs) = rw (ne_eqb (suc (suc (suc (length hs)))) 1 (λ e. omega arith)) refl
+three_are : (line : ℕ) (kind : Kind) (fs : List (List ℕ)) → by_count line kind (take 3 fs) ≡ by_count line kind fs
+three_are line kind [] = refl
+three_are line kind (f ∷ []) = refl
+three_are line kind (f ∷ g ∷ []) = refl
+three_are line Make (f ∷ g ∷ h ∷ hs) = rw (ne_eqb (suc (suc (suc (length hs)))) 2 (λ e. omega arith)) refl
+three_are line Put (f ∷ g ∷ h ∷ hs) = rw (ne_eqb (suc (suc (suc (length hs)))) 2 (λ e. omega arith)) refl
+three_are line Drop (f ∷ g ∷ h ∷ hs) = rw (ne_eqb (suc (suc (suc (length hs)))) 2 (λ e. omega arith)) refl
+three_are line Analyse (f ∷ g ∷ h ∷ hs) = rw (ne_eqb (suc (suc (suc (length hs)))) 0 (λ e. omega arith)) refl
+three_are line (Ask question) (f ∷ g ∷ h ∷ hs) = rw (ne_eqb (suc (suc (suc (length hs)))) 1 (λ e. omega arith)) refl
+
+pub three_do : (line : ℕ) (kind : Option Kind) (fs : List (List ℕ)) → by_kind line kind (take 3 fs) ≡ by_kind line kind fs
+three_do line None fs = refl
+three_do line (Some kind) fs = three_are line kind fs

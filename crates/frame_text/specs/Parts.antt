@@ -4,9 +4,8 @@ use Rattle.std.specs.Borrow.{Bor}
 use Rattle.std.specs.Result.{result_map_both}
 use Rattle.frame_text.specs.declared.faults.LineFault.{LineFault}
 use Rattle.frame_text.specs.declared.fields.Field.{Field}
-use Rattle.frame_text.specs.declared.records.Kind.{Kind}
 use Rattle.frame_text.specs.declared.records.Operands.{Operands}
-use Rattle.frame_text.specs.Records.{Part, part, part_of, letter, counted, numbered}
+use Rattle.frame_text.specs.Records.{Part, part, part_of, counted, numbered}
 
 abbrev pub one_of : Result Field LineFault → Result Part LineFault
 one_of r = result_map_both part_of (λ fault. fault) r
@@ -30,12 +29,7 @@ abbrev pub two_numbers : ℕ → List (List ℕ) → Result (Part × Part) LineF
 two_numbers line rest = counted line 2 rest
     (numbered (second line rest) (numbered (third line rest) (Ok (second line rest, third line rest))))
 
--- the kind of a line by its first field, if there is one
-abbrev pub kind_in : Option (Bor (List ℕ)) → Option Kind
-kind_in None = None
-kind_in (Some f) = letter f.now
-
--- the fields taken of a line, with no more after the first that is missing
+-- the fields taken of those after a letter, with no more after the first that is missing
 abbrev pub before_fields : Option (Bor (List ℕ)) → List (List ℕ) → List (List ℕ)
 before_fields None fs = []
 before_fields (Some f) fs = f.now ∷ fs

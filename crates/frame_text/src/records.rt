@@ -1,8 +1,9 @@
 // Records: what a line says, with its name and its numbers borrowed from the file.
-ghost use Rattle.std.specs.Prelude.{◌≡◌, Ok, ok_or};
+ghost use Rattle.std.specs.Prelude.{◌≡◌, [], Ok, ok_or, take};
 ghost use Rattle.frame_text.specs.declared.records.Kind.TheVariants.{Make, Ask};
-ghost use Rattle.frame_text.specs.Records.{kind_of, by_count, counted, part, part_of, reading, stated};
-ghost use Rattle.frame_text.specs.Parts.{one_of, pair_of, one_field, two_fields, two_numbers, kind_in, at_hand};
+ghost use Rattle.frame_text.specs.Fields.{fields};
+ghost use Rattle.frame_text.specs.Records.{kind_of, by_kind, by_count, counted, part, part_of, reading, stated};
+ghost use Rattle.frame_text.specs.Parts.{one_of, pair_of, one_field, two_fields, two_numbers, at_hand};
 
 use crate::faults::LineFault;
 use crate::fields::Field;
@@ -102,27 +103,11 @@ impl<'a> Line<'a> {
         if !self.ended {
             return Err(LineFault::NoLf { line });
         }
-        let mut fields = self.bytes.split(|b| *b == b',');
-        let Some(kind) = kind_in(fields.next()) else {
-            return Err(LineFault::Kind { line });
-        };
-        let operands = Operands {
-            line,
-            second: fields.next(),
-            third: fields.next(),
-            fourth: fields.next(),
-        };
-        operands.record(kind)
-    }
-}
-
-// The kind whose letter a field is.
-fn kind_in(field: Option<&[u8]>) -> Option<Kind>
-    ensures { result ≡ kind_in field.entry }
-{
-    match field {
-        Some([letter]) => Kind::try_from(char::from(*letter)).ok(),
-        _ => None,
+        match self.bytes {
+            [letter] => Operands::empty(line).read(*letter),
+            [letter, b',', rest @ ..] => Operands::of(rest, line).read(*letter),
+            _ => Err(LineFault::Kind { line }),
+        }
     }
 }
 
@@ -136,6 +121,41 @@ struct Operands<'a> {
 }
 
 impl<'a> Operands<'a> {
+    fn empty(line: usize) -> Operands<'a>
+        ensures line { result.line ≡ line }
+        ensures nothing { at_hand result ≡ [] }
+    {
+        Operands {
+            line,
+            second: None,
+            third: None,
+            fourth: None,
+        }
+    }
+
+    fn of(rest: &'a [u8], line: usize) -> Operands<'a>
+        ensures line { result.line ≡ line }
+        ensures first_three { at_hand result ≡ take 3 (fields rest.now) }
+    {
+        let mut fields = rest.split(|b| *b == b',');
+        Operands {
+            line,
+            second: fields.next(),
+            third: fields.next(),
+            fourth: fields.next(),
+        }
+    }
+
+    // The record that they make after a letter.
+    fn read(&self, letter: u8) -> Result<Record<'a>, LineFault>
+        ensures { stated result ≡ by_kind self.now.line (kind_of letter) (at_hand self.now) }
+    {
+        let Ok(kind) = Kind::try_from(char::from(letter)) else {
+            return Err(LineFault::Kind { line: self.line });
+        };
+        self.record(kind)
+    }
+
     fn field(&self, bytes: &'a [u8], number: u8) -> Field<'a>
         ensures { part_of result ≡ part self.now.line number bytes.entry.now }
     {
