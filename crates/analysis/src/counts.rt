@@ -26,7 +26,8 @@ fn begin_counts(vertices: &mut [Vertex])
     }
 }
 
-// Adds to the weight of v.
+// Adds to the weight of v. That the table has v stands in two short clauses, here as elsewhere: a name for them would be
+// no shorter.
 fn weigh(v: u32, by: i64, vertices: &mut [Vertex])
     requires from { 1 ≤ v }
     requires to { v ≤ length vertices.old }
@@ -54,6 +55,7 @@ fn take_children(vertices: &mut [Vertex])
     requires { Forest vertices.old }
     ensures { ChildrenTaken (length vertices.old) vertices.old vertices.new }
 {
+    // By number, as each step writes another record.
     for v in 1..=vertices.len() {
         take_child(v, vertices);
     }

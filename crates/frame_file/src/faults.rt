@@ -27,7 +27,7 @@ impl From<LineFault> for RunFault {
     }
 }
 
-// The field of its line that a refusal is about, 0 for the whole line.
+// The field of its line that a refusal is about, 0 for the whole line: a number, as the answer prints it.
 fn field_of(refusal: Refusal) -> u8
     ensures { result ≡ field_of refusal }
 {

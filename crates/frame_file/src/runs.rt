@@ -81,7 +81,7 @@ fn ask<'f>(model: &Model<'_>, question: Question, vertex: Field<'f>) -> Result<A
     })
 }
 
-// What a record makes of the model, by how far the run has come.
+// What a record makes of the model, by how far the run has come: one match on both, which is the project's form for it.
 fn carry_out<'f, S: AncestorSets>(
     record: Record<'f>,
     line: usize,

@@ -89,10 +89,6 @@ abbrev pub by_kind : ℕ → Option Kind → List (List ℕ) → Result Statemen
 by_kind line None rest = Err (in_line.Kind line)
 by_kind line (Some kind) rest = by_count line kind rest
 
-abbrev pub kinded : ℕ → Option Kind → Result Kind LineFault
-kinded line None = Err (in_line.Kind line)
-kinded line (Some kind) = Ok kind
-
 abbrev pub letter : List ℕ → Option Kind
 letter [] = None
 letter (b ∷ []) = kind_of b

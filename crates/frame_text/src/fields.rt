@@ -54,6 +54,7 @@ fn digits_value(digits: &[u8]) -> u32
 }
 
 impl<'a> Field<'a> {
+    // Each of the two checks has a test, an answer and a fault of its own: one for both would be no plainer.
     pub fn check_name(&self) -> Result<(), FieldFault>
         ensures { result ≡ cond (is_name self.now.bytes.now)
             (Ok tt) (Err (FieldFault.Name self.now.line self.now.number)) }

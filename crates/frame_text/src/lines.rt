@@ -8,10 +8,12 @@ mod reading;
 pub struct Line<'a> {
     pub bytes: &'a [u8],
     pub number: usize,
+    // no option of the bytes: they are there either way
     pub ended: bool,
 }
 
-// The bytes of a file, how many of them are read, and how many lines those make.
+// The bytes of a file, how many of them are read, and how many lines those make. The file stays whole beside the place
+// in it: the project's form for a reader.
 #[derive(Drop)]
 pub struct FrameReader<'a> {
     file: &'a [u8],

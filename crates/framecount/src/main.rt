@@ -10,7 +10,8 @@ use sets::HalvedLinks;
 use std::io;
 use std::io::{Read, Write};
 
-// One byte more than a run takes, so that a longer file is seen to be longer.
+// One byte more than a run takes, so that a longer file is seen to be longer. Input and tables are arrays of a fixed
+// size: the program allocates nothing.
 const INPUT: usize = 32_769;
 
 // How many bytes the text of a block takes, with its LF.

@@ -12,6 +12,7 @@ const LIMIT: u32 = 16_384;
 #[derive(Drop)]
 pub struct Table<'a> {
     pub numbers: &'a mut [u32],
+    // how many of the numbers are in use: they are lent whole, and nothing is allocated
     pub used: u32,
     ghost fits: { used ≤ room numbers.now },
     ghost stays: { Stays used (number numbers.now) },
