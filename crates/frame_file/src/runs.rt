@@ -1,5 +1,6 @@
 // The run of a file: what each line makes of the model, and its answer.
-// The model and the sets stay two parameters: a struct that holds both lent says nothing of what becomes of them.
+// The model and the sets stay two parameters: each method of a struct that held them would have to say that it still
+// holds the same two. That the sets' size stays has to be said by each function, since a caller sees only its clauses.
 ghost use Rattle.std.specs.Prelude.{◌≡◌, ℕ};
 ghost use Rattle.frame_text.specs.Records.{asks, makes, part_of, statement_of};
 ghost use Rattle.model.specs.Asked.{asked};
@@ -54,7 +55,7 @@ fn make_model<'f>(
     })
 }
 
-// What the model answers to a question, each by its own call.
+// What the model answers to a question, each by its own call: a call given as a parameter would be picked by this match.
 fn read_number(model: &Model<'_>, question: Question, vertex: u32) -> Result<u32, Refusal>
     ensures { result ≡ asked (number_of question) model.now vertex }
 {

@@ -12,7 +12,7 @@ pub trait Answers {
 // The blocks so far, in a table that is lent. What has no room is left out.
 #[derive(Drop)]
 pub struct Listing<'a> {
-    // the whole table with a count beside it: whoever lent it reads how many blocks it holds
     pub blocks: &'a mut [[u8; 32]],
+    // how many blocks there are: the table is lent whole, and nothing is allocated
     pub len: usize,
 }

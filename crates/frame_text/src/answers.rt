@@ -88,6 +88,7 @@ impl<'a> Answer<'a> {
         block.finish()
     }
 
+    // Into the block, and not by `Display`: a name is bytes.
     fn write(&self, block: &mut Block)
         ensures adds { Adds block.old (text_of self.now) block.new }
         ensures short { name_length self.now ≤ 16 →

@@ -42,7 +42,7 @@ pub enum Kind {
     Ask(Question),
 }
 
-// A letter that stands for no kind.
+// A letter that stands for no kind. The letters are matched as chars, one case a kind: the project's form for it.
 #[derive(Clone, Copy)]
 pub struct NoKind;
 
@@ -204,6 +204,8 @@ impl<'a> Operands<'a> {
         Ok((i, j))
     }
 
+    // The fields of a kind with none, with one, with two: a pattern each names them, where one function over the count
+    // would have to count them.
     fn none(&self) -> Result<(), LineFault>
         ensures { result ≡ counted self.now.line 0 (at_hand self.now) (Ok tt) }
     {

@@ -2,7 +2,7 @@
 
 #[derive(Clone, Copy)]
 pub struct Numbers {
-    // The parent in the elimination tree, 0 at a root.
+    // The parent in the elimination tree, 0 at a root: the number that is answered.
     pub parent: u32,
     // The place, which is the position in the postorder, from 1, and the first place in the subtree.
     pub place: u32,

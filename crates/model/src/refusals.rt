@@ -36,7 +36,8 @@ pub enum Refusal {
 }
 
 impl Refusal {
-    // The refusal's number, by which every answer names it; two refusals share one, so that it is no discriminant.
+    // The refusal's number, by which every answer names it: a call that users have. Two refusals share a number, so that
+    // it is no discriminant, and no refusal could be made of one.
     pub fn number(self) -> u8
         ensures { result ≡ number_of self }
     {

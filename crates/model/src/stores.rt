@@ -9,6 +9,7 @@ use analysis::records::{Entry, Vertex};
 
 #[derive(Drop)]
 pub struct Store<'a> {
+    // 0 of the empty model, which is a model like any other
     pub order: u32,
     // how many are held at the start of the entry table, which is lent whole: nothing is allocated
     pub held: u32,
@@ -31,7 +32,8 @@ impl Store<'_> {
     ghost use Rattle.model.specs.Stored.{Fresh, Pushed, Removed, held_by};
     ghost use Rattle.model.specs.Tables.{index_of};
 
-    // Where the entry of these two vertices stands, if it does.
+    // Where the entry of these two vertices stands, if it does. An entry has a link that a pair has not, so that the two
+    // vertices are compared, here, and written, in `push`, one by one.
     pub(crate) fn find(&self, pair: Pair) -> Option<usize>
         ensures { result ≡ index_of pair (held_by self.now) }
     {

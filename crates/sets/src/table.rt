@@ -1,4 +1,5 @@
-// A number for each vertex in use, in numbers that are lent: what the kinds of sets have in common.
+// A number for each vertex in use, in numbers that are lent: what the kinds of sets have in common. That the number in
+// use stays has to be said by each call that leaves it, since a caller sees only its clauses.
 ghost use Rattle.std.specs.Prelude.{◌≡◌, ◌-◌, ◌≤◌, true, is_ok, length, nat_le, slice_set};
 ghost use Rattle.sets.specs.Meaning.{among};
 ghost use Rattle.sets.specs.Tables.{number, room, own, two_tops, Begun, Hung, Stays};
