@@ -55,7 +55,7 @@ fn make_model<'f>(
     })
 }
 
-// What the model answers to a question, each by its own call: a call given as a parameter would be picked by this match.
+// What the model answers to a question, each by its own call: one given as a parameter would be picked by this match.
 fn read_number(model: &Model<'_>, question: Question, vertex: u32) -> Result<u32, Refusal>
     ensures { result ≡ asked (number_of question) model.now vertex }
 {

@@ -3,8 +3,8 @@ ghost use Rattle.std.specs.Prelude.{◌≡◌};
 ghost use Rattle.frame_text.specs.declared.faults.LineFault.TheVariants.{Field};
 ghost use Rattle.frame_text.specs.Faults.{report_of, field_report, line_report};
 
-// A field that is not what its place asks for. Each fault says where it is, since it is carried whole into the next one:
-// the project's form for faults.
+// A field that is not what its place asks for. Each fault says where it is, since it is carried whole into the next
+// one: the project's form for faults.
 #[derive(Clone, Copy)]
 pub enum FieldFault {
     // not 1 to 16 bytes of A to Z, 0 to 9 and hyphen

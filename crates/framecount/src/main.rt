@@ -40,8 +40,8 @@ impl<'a> Answers for Printer<'a> {
     }
 }
 
-// Fills the buffer from standard input, as far as that goes; answers how many bytes came. Counted by hand: the library's
-// copy would go on after a read that a signal has cut short, and this ends there.
+// Fills the buffer from standard input, as far as that goes; answers how many bytes came. Counted by hand: the
+// library's copy would go on after a read that a signal has cut short, and this ends there.
 fn read_input(rt: &HostRuntime, buffer: &mut [u8; INPUT]) -> io::Result<usize>
     ensures { IfOk result (λ n. n ≤ 32769) }
 {

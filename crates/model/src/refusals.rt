@@ -36,8 +36,8 @@ pub enum Refusal {
 }
 
 impl Refusal {
-    // The refusal's number, by which every answer names it: a call that users have. Two refusals share a number, so that
-    // it is no discriminant, and no refusal could be made of one.
+    // The refusal's number, by which every answer names it: a call that users have. Two refusals share a number, so
+    // that it is no discriminant, and no refusal could be made of one.
     pub fn number(self) -> u8
         ensures { result ≡ number_of self }
     {

@@ -32,8 +32,8 @@ impl Store<'_> {
     ghost use Rattle.model.specs.Stored.{Fresh, Pushed, Removed, held_by};
     ghost use Rattle.model.specs.Tables.{index_of};
 
-    // Where the entry of these two vertices stands, if it does. An entry has a link that a pair has not, so that the two
-    // vertices are compared, here, and written, in `push`, one by one.
+    // Where the entry of these two vertices stands, if it does. An entry has a link that a pair has not, so that the
+    // two vertices are compared, here, and written, in `push`, one by one.
     pub(crate) fn find(&self, pair: Pair) -> Option<usize>
         ensures { result ≡ index_of pair (held_by self.now) }
     {
