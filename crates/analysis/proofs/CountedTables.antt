@@ -13,7 +13,7 @@ use Rattle.gather.specs.Kinds.{weight, no_weight, summed}
 use Rattle.gather.specs.Gatherings.{Gathered}
 use Rattle.analysis.specs.declared.records.Vertex.{Vertex}
 use Rattle.analysis.specs.Tables.{vertex, no_vertex, parent_of, with_weight, with_rows, with_last}
-use Rattle.analysis.specs.Tables.{Only, counts_from, weight_from}
+use Rattle.analysis.specs.Tables.{Has, Only, counts_from, weight_from}
 use Rattle.analysis.specs.Counts.{Same64, weighed, child_taken, ChildrenTaken, lengthened}
 use Rattle.analysis.specs.Counts.{EntryCounted}
 use Rattle.analysis.proofs.Changes.{vertex_same, vertex_other, counts_takes, weight_takes}
@@ -63,8 +63,7 @@ less_one a true = refl
 less_one a false = refl
 
 -- x is counted as a neighbour of u that meets its row at q
-module _ (vs cs ds ws : List Vertex) (x u q : ℕ) (row : (1 ≤ u) × (u ≤ length vs))
-    (met : (1 ≤ x) × (x ≤ length vs)) (top : (1 ≤ q) × (q ≤ length vs))
+module _ (vs cs ds ws : List Vertex) (x u q : ℕ) (row : Has vs u) (met : Has vs x) (top : Has vs q)
     (is_c : cs ≡ lengthened vs u x q) (is_d : ds ≡ weighed cs x (pos 1))
     (is_w : ws ≡ weighed ds q (negsuc 0)) where
   abbrev longer : Vertex

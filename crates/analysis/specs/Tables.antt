@@ -39,6 +39,10 @@ vertex vs v = slice_index_or vs (v - 1) no_vertex
 abbrev pub parent_of : List Vertex → ℕ → ℕ
 parent_of vs v = (vertex vs v).parent
 
+-- the table has the vertex v
+abbrev pub Has : List Vertex → ℕ → Type 0
+Has vs v = (1 ≤ v) × (v ≤ length vs)
+
 abbrev pub pair_of : Entry → ℕ × ℕ
 pair_of e = (e.low, e.high)
 

@@ -2,7 +2,7 @@
 ghost use Rattle.std.specs.Prelude.{◌≡◌, ◌-◌, ◌≤◌, map, length};
 ghost use Rattle.pattern.specs.Patterns.{Pattern};
 ghost use Rattle.pattern.specs.Elimination as elimination;
-ghost use Rattle.analysis.specs.Tables.{parent_of, Only, counts_from};
+ghost use Rattle.analysis.specs.Tables.{parent_of, Has, Only, counts_from};
 ghost use Rattle.analysis.specs.Growth.{pattern_in, Fresh};
 ghost use Rattle.analysis.specs.Order.{Forest};
 ghost use Rattle.analysis.specs.Counts.{place_in, Prepared, Counted, Counting, Passed, TopsAreRoots, SameTops};
@@ -16,6 +16,7 @@ use gather::kinds::Weight;
 use sets::AncestorSets;
 
 // A row count and a weight of 1 for each vertex, and no neighbour met.
+// A loop, as where the lists and a tree begin: a closure would say no more.
 fn begin_counts(vertices: &mut [Vertex])
     ensures { vertices.new ≡ map uncounted vertices.old }
 {
@@ -26,11 +27,9 @@ fn begin_counts(vertices: &mut [Vertex])
     }
 }
 
-// Adds to the weight of v. That the table has v stands in two short clauses, here as elsewhere: a name for them would be
-// no shorter.
+// Adds to the weight of v.
 fn weigh(v: u32, by: i64, vertices: &mut [Vertex])
-    requires from { 1 ≤ v }
-    requires to { v ≤ length vertices.old }
+    requires has { Has vertices.old v }
     ensures { vertices.new ≡ weighed vertices.old v by }
 {
     let vertex = &mut vertices[v as usize - 1];
@@ -39,8 +38,7 @@ fn weigh(v: u32, by: i64, vertices: &mut [Vertex])
 
 // Takes one off the weight of v's parent.
 fn take_child(v: usize, vertices: &mut [Vertex])
-    requires from { 1 ≤ v }
-    requires to { v ≤ length vertices.old }
+    requires has { Has vertices.old v }
     requires parent { parent_of vertices.old v ≤ length vertices.old }
     ensures { vertices.new ≡ child_taken vertices.old v }
 {
@@ -63,9 +61,9 @@ fn take_children(vertices: &mut [Vertex])
 
 // Lengthens row u by the levels from q, where it was met last, down to x, met now.
 fn lengthen_row(u: u32, x: u32, q: u32, vertices: &mut [Vertex])
-    requires row { (1 ≤ u) × (u ≤ length vertices.old) }
-    requires met { (1 ≤ x) × (x ≤ length vertices.old) }
-    requires top { (1 ≤ q) × (q ≤ length vertices.old) }
+    requires row { Has vertices.old u }
+    requires met { Has vertices.old x }
+    requires top { Has vertices.old q }
     requires climbs { Climbs vertices.old u x q }
     ensures { vertices.new ≡ lengthened vertices.old u x q }
 {
@@ -99,8 +97,7 @@ fn count_neighbours<S: AncestorSets>(
     entries: &[Entry],
     sets: &mut S,
 )
-    requires from { 1 ≤ x }
-    requires to { x ≤ length vertices.old }
+    requires has { Has vertices.old x }
     requires prepared { Prepared vertices.old entries.now }
     requires before { Passed (pattern_in vertices.old entries.now) (place_in vertices.old entries.now x - 1)
         vertices.old (S.meaning sets.old) }
@@ -116,8 +113,7 @@ fn count_neighbours<S: AncestorSets>(
 
 // Counts x, and then puts it below its parent.
 fn count_vertex<S: AncestorSets>(x: u32, vertices: &mut [Vertex], entries: &[Entry], sets: &mut S)
-    requires from { 1 ≤ x }
-    requires to { x ≤ length vertices.old }
+    requires has { Has vertices.old x }
     requires prepared { Prepared vertices.old entries.now }
     requires before { Passed (pattern_in vertices.old entries.now) (place_in vertices.old entries.now x - 1)
         vertices.old (S.meaning sets.old) }

@@ -25,7 +25,9 @@ use sets::{AncestorSets, NoRoom};
 
 // Analyses the pattern of the entries, of order n: fills in the vertex records 1 to n and answers the sum of the
 // column counts, or refuses, changing nothing, if the sets have no room for n. The tables and the sets are passed on
-// each by itself: of lent tables held by a struct, no proof knows what they come to.
+// each by itself: a struct that held the lent tables would need a clause in each method that it still holds the same
+// ones (`ghost_name`), one for each fact that it saves. And that a call leaves the sets' size alone is said by each,
+// since a caller sees only its clauses.
 pub fn analyse<S: AncestorSets>(
     n: u32,
     vertices: &mut [Vertex],

@@ -9,6 +9,7 @@ use crate::records::{Entry, Vertex};
 #[derive(Drop)]
 pub struct Neighbours<'a> {
     entries: &'a [Entry],
+    // 0 at the end, as in the links.
     at: u32,
     ghost within: { at ≤ length entries.now },
     ghost falls: { Falling entries.now },

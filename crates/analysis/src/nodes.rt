@@ -1,5 +1,5 @@
 // What is gathered up the tree: the vertex record as a node that holds a weight, a least place or a greatest level.
-// The three differ in the field alone, which only a macro could pass on, and no impl is written by a macro here.
+// One impl for each field: they differ in the field alone, and the gate refuses impls that a macro writes.
 ghost use Rattle.analysis.specs.Tables.{no_vertex, with_weight, with_first, with_deepest};
 ghost use Rattle.std.proofs.Common.{rules};
 
@@ -25,6 +25,7 @@ impl Node<Weight> for Vertex {
     ghost laws = { Prim.search rules };
 
     fn value(&self) -> Weight {
+        // Made anew, not copied: a number that is read here is known to fit its type.
         Weight(self.weight.0)
     }
 

@@ -1,7 +1,7 @@
 // From the parents to levels, sizes of subtrees, places, the walk by place, and what the subtrees reach.
 ghost use Rattle.std.specs.Prelude.{◌≡◌, ◌-◌, ◌<◌, ◌≤◌, length, pos};
 ghost use Rattle.pattern.specs.Patterns.{Pattern};
-ghost use Rattle.analysis.specs.Tables.{vertex, parent_of, with_place, with_last, Only};
+ghost use Rattle.analysis.specs.Tables.{vertex, parent_of, Has, with_place, with_last, Only};
 ghost use Rattle.analysis.specs.Tables.{level_from, weight_from, place_from, at_from, first_from, deepest_from};
 ghost use Rattle.analysis.specs.Tables.{order_from};
 ghost use Rattle.analysis.specs.Order.{Forest, level_under, size_in, next_place, taken, free_after, noted};
@@ -13,7 +13,7 @@ use gather::gathering::gather_from;
 use gather::kinds::{GreatestLevel, LeastPlace, Weight};
 
 // One more than the level of the parent, which has its level already; 0 if there is none.
-fn level_below(parent: u32, vertices: &[Vertex]) -> u32
+fn level_under(parent: u32, vertices: &[Vertex]) -> u32
     requires within { parent ≤ length vertices.now }
     requires small { 1 ≤ parent → (vertex vertices.now parent).level < 16384 }
     ensures { result ≡ level_under vertices.now parent }
@@ -33,7 +33,7 @@ fn levels(vertices: &mut [Vertex])
 {
     // By number, as each step reads another record.
     for v in (1..=vertices.len()).rev() {
-        vertices[v - 1].level = level_below(vertices[v - 1].parent, vertices);
+        vertices[v - 1].level = level_under(vertices[v - 1].parent, vertices);
     }
 }
 
@@ -69,8 +69,7 @@ impl Vertex {
 // Gives v the last place that is free below its parent, with those before it to the subtree of v, and answers the last
 // that is then free for a root.
 fn take_place(v: usize, free: u32, vertices: &mut [Vertex]) -> u32
-    requires from { 1 ≤ v }
-    requires to { v ≤ length vertices.old }
+    requires has { Has vertices.old v }
     requires parent { parent_of vertices.old v ≤ length vertices.old }
     requires counts { (vertex vertices.old v).weight.0 ≡ pos (size_in (vertex vertices.old v)) }
     requires few { size_in (vertex vertices.old v) ≤ 16384 }
@@ -108,8 +107,7 @@ fn places(vertices: &mut [Vertex])
 
 // Notes v at its place.
 fn note_place(v: usize, vertices: &mut [Vertex])
-    requires from { 1 ≤ v }
-    requires to { v ≤ length vertices.old }
+    requires has { Has vertices.old v }
     requires few { v ≤ 16384 }
     requires some { 1 ≤ (vertex vertices.old v).place }
     requires within { (vertex vertices.old v).place ≤ length vertices.old }

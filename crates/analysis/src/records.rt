@@ -1,5 +1,6 @@
 // The records of the two tables that an analysis works on: one for each vertex and one for each entry of the pattern.
-// Numbers count from 1 and 0 is none, as in the theorems' trees; an `Option` would widen the fixed tables.
+// Numbers count from 1 and 0 is none, as in the theorems' trees; an `Option` would widen the fixed tables. The lists
+// are links by position, since nothing is allocated.
 ghost use Rattle.std.specs.Prelude.{◌≡◌};
 ghost use Rattle.analysis.specs.Tables.{no_entry, no_vertex};
 

@@ -2,7 +2,7 @@
 ghost use Rattle.std.specs.Prelude.{◌≡◌, ◌-◌, ◌≤◌, map, length};
 ghost use Rattle.analysis.specs.declared.records.End.{End};
 ghost use Rattle.analysis.specs.declared.records.End.TheVariants.{High};
-ghost use Rattle.analysis.specs.Tables.{parent_of, with_parent, parent_from, Only};
+ghost use Rattle.analysis.specs.Tables.{parent_of, Has, with_parent, parent_from, Only};
 ghost use Rattle.analysis.specs.Links.{Listed};
 ghost use Rattle.analysis.specs.Growth.{pattern_in, Fresh, Grown, Adopted, adopted, Tree, Rooted};
 ghost use Rattle.analysis.specs.Order.{Forest};
@@ -10,7 +10,7 @@ ghost use Rattle.analysis.specs.Order.{Forest};
 use crate::records::{Entry, Vertex};
 use sets::AncestorSets;
 
-// Makes a root of each vertex.
+// Makes a root of each vertex. A loop, as where the lists and the counts begin: a closure would say no more.
 fn begin_tree(vertices: &mut [Vertex])
     ensures { vertices.new ≡ map (λ x. with_parent x 0) vertices.old }
 {
@@ -40,8 +40,7 @@ fn adopt<S: AncestorSets>(x: u32, u: u32, vertices: &mut [Vertex], sets: &mut S)
 
 // Puts the trees of u's lower neighbours below u, once that is done for the vertices below u.
 fn adopt_row<S: AncestorSets>(u: u32, vertices: &mut [Vertex], entries: &[Entry], sets: &mut S)
-    requires from { 1 ≤ u }
-    requires to { u ≤ length vertices.old }
+    requires has { Has vertices.old u }
     requires lists { Listed High vertices.old entries.now }
     requires used { (S.meaning sets.old).used ≡ length vertices.old }
     requires before { Grown (pattern_in vertices.old entries.now) (u - 1) vertices.old (S.meaning sets.old) }

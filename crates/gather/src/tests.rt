@@ -27,6 +27,7 @@ impl Child for Vertex {
     }
 }
 
+// One impl for each field: they differ in the field alone, and the gate refuses impls that a macro writes.
 impl Node<Weight> for Vertex {
     ghost held = { λ x. weight x.weight };
 

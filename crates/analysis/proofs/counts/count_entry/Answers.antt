@@ -1,4 +1,5 @@
-use Rattle.std.proofs.Common.{◌≡◌, ◌≤◌, length, sym, arith}
+use Rattle.std.proofs.Common.{◌≡◌, sym, arith}
+use Rattle.analysis.specs.Tables.{Has}
 use Rattle.analysis.specs.Counts.{Climbs, EntryCounted, meets_at}
 use Rattle.analysis.proofs.Changes.{at_equal}
 use Rattle.analysis.proofs.CountedTables.{entry_only, entry_counted}
@@ -13,7 +14,7 @@ met : (g : given.Over) (c : After-unwrap_or-q g) →
 met g c = found_meets _ _ c.args.vertices.now c.args.u _ _ c.unwrap_or-q.ensures c.find.ensures
 
 top : (g : given.Over) (c : After-unwrap_or-q g) →
-    (1 ≤ c.unwrap_or-q.result) × (c.unwrap_or-q.result ≤ length c.args.vertices.now)
+    Has c.args.vertices.now c.unwrap_or-q.result
 top g c =
     let i = met g c in
     let r = c.requires.row in
@@ -32,7 +33,7 @@ lengthen_row-requires g c =
 
 pub weigh-requires-2 : goal.weigh-requires-2
 weigh-requires-2 g c =
-    let t = top g (goal.at.weigh-requires-2 g c).After-unwrap_or-q in record { from = t.0; to = omega arith }
+    let t = top g (goal.at.weigh-requires-2 g c).After-unwrap_or-q in record { has = (omega arith, omega arith) }
 
 pub returns : goal.returns
 returns g c =
@@ -40,8 +41,8 @@ returns g c =
     let vs = c.args.vertices.now in
     let x = c.args.x in
     let u = c.args.u in
-    let row : (1 ≤ u) × (u ≤ length vs) = (c.requires.row.0, omega arith) in
-    let below : (1 ≤ x) × (x ≤ length vs) = (c.requires.met.0, omega arith) in
+    let row : Has vs u = (c.requires.row.0, omega arith) in
+    let below : Has vs x = (c.requires.met.0, omega arith) in
     record {
       counted = at_equal (λ q. EntryCounted x u q vs)
           (entry_counted vs _ _ _ x u _ row below (top g at) c.lengthen_row.ensures c.weigh.ensures c.weigh-2.ensures)

@@ -13,7 +13,7 @@ use Rattle.analysis.proofs.counts.count_neighbours.Goals.{In-Some}
 pub neighbours-entry-items-requires : goal.neighbours-entry-items-requires
 neighbours-entry-items-requires g c =
     record {
-      within = (met_head _ _ _ _ _ c.requires.prepared.lists.lists c.requires.from c.requires.to).within;
+      within = (met_head _ _ _ _ _ c.requires.prepared.lists.lists c.requires.has.0 c.requires.has.1).within;
       falls = links_fall _ _ _ _ c.requires.prepared.lists.lists;
     }
 
@@ -24,8 +24,8 @@ loop-entry-init g c =
     let lists = c.requires.prepared.lists.lists in
     record {
       same = ap (λ s. s.entries.now) is ∙ c.neighbours-entry-items.ensures.entries;
-      met = subst (Met Low _ _ _) (sym at) (met_head _ _ _ _ _ lists c.requires.from c.requires.to);
-      counting = counting_head _ _ _ _ (at ∙ head_newest _ _ _ _ lists c.requires.from c.requires.to)
+      met = subst (Met Low _ _ _) (sym at) (met_head _ _ _ _ _ lists c.requires.has.0 c.requires.has.1);
+      counting = counting_head _ _ _ _ (at ∙ head_newest _ _ _ _ lists c.requires.has.0 c.requires.has.1)
           c.requires.before.counting;
       only = only_none counts_takes _;
       tops = record { size = refl; used = refl; tops = λ _. refl };
@@ -57,7 +57,7 @@ count_entry-requires g c =
     let u = upper_at _ _ _ _ _ _ c.requires.prepared.lists.sound i.met (taken g some) in
     let used = (tops g some).used in
     record {
-      met = (c.requires.from, omega arith);
+      met = (c.requires.has.0, omega arith);
       row = (omega arith, omega arith);
       room = omega arith;
       climbs = climbs _ _ _ _ _ _ (tree g some) i.counting.tallied (tops g some)
@@ -90,7 +90,7 @@ returns g c =
     let p = pattern_in c.args.vertices.now c.args.entries.now in
     let i = c.loop-entry.invariant in
     record {
-      counted = counting_end p _ _ c.requires.from c.requires.to c.requires.prepared.lists.sound
+      counted = counting_end p _ _ c.requires.has.0 c.requires.has.1 c.requires.prepared.lists.sound
           (at_equal (CountingAt p c.args.x) i.counting c.in-None.ensures.steps.step.0);
       only = i.only;
       tops = i.tops;

@@ -20,13 +20,14 @@ up : (g : given.Over) (c : After-count_neighbours g) →
     ≡ parent (pattern_in c.args.vertices.now c.args.entries.now) c.args.x
 up g c =
     let p = pattern_in c.args.vertices.now c.args.entries.now in
-    (ready_only p _ _ c.count_neighbours.ensures.only c.requires.prepared.tree).parents _ c.requires.from c.requires.to
+    let ready = ready_only p _ _ c.count_neighbours.ensures.only c.requires.prepared.tree in
+    ready.parents _ c.requires.has.0 c.requires.has.1
 
 pub unwrap-requires : goal.unwrap-requires
 unwrap-requires g c =
     let a = (goal.at.unwrap-requires g c).After-count_neighbours in
     c.merge.ensures.accepted
-    ∙ parent_apart _ _ c.requires.from c.requires.to _ (tops g a) _ (up g a) (omega arith)
+    ∙ parent_apart _ _ c.requires.has.0 c.requires.has.1 _ (tops g a) _ (up g a) (omega arith)
 
 pub returns-then-parent-ne0 : goal.returns-then-parent-ne0
 returns-then-parent-ne0 g c =
@@ -35,7 +36,7 @@ returns-then-parent-ne0 g c =
     record {
       passed = record {
         counting = after.counted;
-        tops = tops_merged _ _ c.requires.from c.requires.to _ (tops g a) _ _ _ (up g a) (omega arith)
+        tops = tops_merged _ _ c.requires.has.0 c.requires.has.1 _ (tops g a) _ _ _ (up g a) (omega arith)
             c.merge.ensures;
       };
       only = after.only;
@@ -50,7 +51,7 @@ returns-else-parent-ne0 g c =
     record {
       passed = record {
         counting = after.counted;
-        tops = tops_root _ _ c.requires.from c.requires.to _ (tops g a) (omega arith);
+        tops = tops_root _ _ c.requires.has.0 c.requires.has.1 _ (tops g a) (omega arith);
       };
       only = after.only;
       size = after.tops.size;

@@ -9,8 +9,7 @@ count_vertex-requires g c =
     let prepared = prepared_only _ c.loop-i.vertices _ (omega arith) c.loop-i.invariant.1 c.requires.prepared in
     let at = at_walk (pattern_in c.loop-i.vertices c.args.entries.now) _ c.loop-i.i prepared.tree (omega arith) in
     record {
-      from = at.from;
-      to = at.to;
+      has = (at.from, at.to);
       prepared = prepared;
       before = passed_at _ _ _ _ _ _ _ (omega arith) (sym at.before) c.loop-i.invariant.0;
     }

@@ -9,7 +9,7 @@ pub take_child-requires : goal.take_child-requires
 take_child-requires c =
     let s = c.requires.grows.stays c.loop-v.v (omega arith) (omega arith) in
     let e = ap (λ x. x.parent) (c.loop-v.invariant.only c.loop-v.v) in
-    record { from = omega arith; to = omega arith; parent = omega arith }
+    record { has = (omega arith, omega arith); parent = omega arith }
 
 pub loop-v-preserved : goal.loop-v-preserved
 loop-v-preserved c =

@@ -9,8 +9,8 @@ use Rattle.analysis.proofs.order.levels.Goals as goal
 pub loop-v-init : goal.loop-v-init
 loop-v-init c = (λ w p q. absurd (omega arith), only_none level_takes _)
 
-pub level_below-requires : goal.level_below-requires
-level_below-requires c =
+pub level_under-requires : goal.level_under-requires
+level_under-requires c =
     let v = c.loop-v.v in
     let up = parent_of c.args.vertices.now in
     let g = c.requires.grows in
@@ -32,7 +32,7 @@ loop-v-preserved c =
     let v = c.loop-v.v in
     let vs = c.loop-v.vertices in
     let step = level_step (length c.args.vertices.now) _ v vs _ (omega arith) (omega arith) (omega arith)
-    c.requires.grows parents (ap (λ l. set vs (v - 1) (with_level (vertex vs v) l)) c.level_below.ensures)
+    c.requires.grows parents (ap (λ l. set vs (v - 1) (with_level (vertex vs v) l)) c.level_under.ensures)
     c.loop-v.invariant.0 in
     (step.0, only_then level_takes _ _ _ c.loop-v.invariant.1 step.1)
 

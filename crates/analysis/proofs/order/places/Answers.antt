@@ -30,8 +30,7 @@ take_place-free-requires c =
     ∙ next_is n up g v c.loop-v.free vs (omega arith) (omega arith) c.loop-v.invariant.0 in
     let (some, fits) = room n up g v c.loop-v.free vs (omega arith) (omega arith) c.loop-v.invariant.0 in
     record {
-      from = omega arith;
-      to = omega arith;
+      has = (omega arith, omega arith);
       parent = omega arith;
       counts = w ∙ ap pos (sym k);
       few = omega arith;

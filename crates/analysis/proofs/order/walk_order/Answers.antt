@@ -22,8 +22,7 @@ note_place-requires c =
     let e = ap (λ x. x.place) (c.loop-v.invariant.1 c.loop-v.v)
     ∙ c.requires.places c.loop-v.v (omega arith) (omega arith) in
     record {
-      from = omega arith;
-      to = omega arith;
+      has = (omega arith, omega arith);
       few = omega arith;
       some = omega (arith, b);
       within = omega (arith, b);

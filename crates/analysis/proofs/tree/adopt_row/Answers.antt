@@ -12,7 +12,7 @@ use Rattle.analysis.proofs.tree.adopt_row.Goals.{In-Some}
 pub neighbours-entry-items-requires : goal.neighbours-entry-items-requires
 neighbours-entry-items-requires g c =
     record {
-      within = (met_head _ _ _ _ _ c.requires.lists.lists c.requires.from c.requires.to).within;
+      within = (met_head _ _ _ _ _ c.requires.lists.lists c.requires.has.0 c.requires.has.1).within;
       falls = links_fall _ _ _ _ c.requires.lists.lists;
     }
 
@@ -20,7 +20,7 @@ pub loop-entry-init : goal.loop-entry-init
 loop-entry-init g c =
     record {
       same = search rules;
-      row = row_at_head _ _ _ _ c.requires.lists.sound _ _ _ c.requires.lists.lists c.requires.from c.requires.to
+      row = row_at_head _ _ _ _ c.requires.lists.sound _ _ _ c.requires.lists.lists c.requires.has.0 c.requires.has.1
           (search rules) c.requires.before;
       size = refl;
       used = c.requires.used;
@@ -43,9 +43,9 @@ adopt-requires g c =
     record {
       from = x.0;
       to = omega arith;
-      above = c.requires.from;
+      above = c.requires.has.0;
       within = omega arith;
-      own = row_top (pattern_in c.args.vertices.now c.args.entries.now) _ _ _ _ i.row.in_row c.requires.to;
+      own = row_top (pattern_in c.args.vertices.now c.args.entries.now) _ _ _ _ i.row.in_row c.requires.has.1;
       room = omega arith;
     }
 
@@ -60,7 +60,7 @@ loop-entry-preserved g c =
     let is = c.adopt.ensures.parents in
     record {
       same = c.in-Some.ensures.steps.entries ∙ i.same;
-      row = row_at_link _ _ _ _ c.requires.lists.sound _ _ _ _ _ _ _ c.requires.lists.lists c.requires.to i.row
+      row = row_at_link _ _ _ _ c.requires.lists.sound _ _ _ _ _ _ _ c.requires.lists.lists c.requires.has.1 i.row
           (taken g some) (adoption _ _ _ _ _ _ _ put is r.0 (omega arith));
       size = put.size ∙ i.size;
       used = put.used ∙ used;
