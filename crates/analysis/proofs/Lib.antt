@@ -4,6 +4,7 @@ pub mod Passes
 pub mod Gathers
 pub mod Orders
 pub mod Tops
+pub mod SettledTops
 mod Phases
 pub mod CountedTables
 pub mod CountedEvents

@@ -4,3 +4,4 @@ pub mod Growth
 pub mod Order
 pub mod Counts
 pub mod Analysed
+pub mod Settling

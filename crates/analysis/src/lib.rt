@@ -12,6 +12,7 @@ pub mod neighbours;
 pub mod nodes;
 pub mod order;
 pub mod records;
+pub mod settling;
 #[cfg(test)]
 mod tests;
 pub mod tree;

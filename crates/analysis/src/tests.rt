@@ -1,7 +1,8 @@
 // The worked frames, with values worked out by hand.
 use crate::analyse;
 use crate::records::{Entry, Vertex};
-use sets::{NoRoom, WrittenTops};
+use crate::settling::settle;
+use sets::{AncestorSets, HalvedLinks, NoRoom, WrittenTops};
 use std::process::Abort;
 
 fn check_vertex(rt: &impl Abort, vertex: Vertex, parent: u32, place: u32, rows: u32, columns: i64) {
@@ -98,4 +99,20 @@ fn too_few_sets(rt: HostRuntime) {
         Err(NoRoom)
     );
     assert_eq!(rt; entries[0].link, 7);
+}
+
+// 1 below 3, and 2 a root. The sets have been in use before.
+#[test]
+fn parents_alone(rt: HostRuntime) {
+    let mut numbers = [0u32; 4];
+    let mut sets = HalvedLinks::new(&mut numbers);
+    let mut vertices = [Vertex::new(); 3];
+    vertices[0].parent = 3;
+    assert_eq!(rt; sets.start(4), Ok(()));
+    assert_eq!(rt; sets.merge(2, 4), Ok(()));
+    assert_eq!(rt; settle(&vertices, &mut sets), Ok(()));
+    assert_eq!(rt; sets.find(1), Some(3));
+    assert_eq!(rt; sets.find(2), Some(2));
+    assert_eq!(rt; sets.find(3), Some(3));
+    assert_eq!(rt; sets.find(4), None);
 }

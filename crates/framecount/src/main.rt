@@ -1,9 +1,10 @@
 // Reads a frame file from standard input and prints the answer to each of its lines.
 #![tactic(auto)]
 
-ghost use Rattle.std.specs.Prelude.{◌≡◌, ℕ, ◌+◌, ◌-◌, ◌<◌, ◌≤◌, IfOk, ◌≢◌, slice_index};
+ghost use Rattle.std.specs.Prelude.{◌≡◌, ℕ, ◌+◌, ◌-◌, ◌<◌, ◌≤◌, IfOk, ◌≢◌, [], slice_index};
 
 use analysis::records::{Entry, Vertex};
+use arrayvec::ArrayVec;
 use frame_file::{Answers, run_file};
 use model::make;
 use sets::HalvedLinks;
@@ -14,6 +15,9 @@ use std::io::{Read, Write};
 // size: the program allocates nothing.
 const INPUT: usize = 32_769;
 
+// How many bytes are printed at once, at most.
+const GATHERED: usize = 4096;
+
 // How many bytes the text of a block takes, with its LF.
 fn text_len(block: &[u8; 32]) -> usize
     ensures within { result ≤ 32 }
@@ -23,20 +27,36 @@ fn text_len(block: &[u8; 32]) -> usize
     block.iter().position(|b| *b == b'\n').map_or(32, |i| i + 1)
 }
 
-// Prints the text of each block, and not the zeros after it. Once printing fails, nothing more is printed.
+// Prints the text of each block, and not the zeros after it. The texts are gathered, so that many are printed at once.
+// Once printing fails, nothing more is printed.
 #[derive(Drop)]
 struct Printer<'a> {
     rt: &'a HostRuntime,
+    gathered: ArrayVec<u8, GATHERED>,
     printed: io::Result<()>,
+}
+
+impl Printer<'_> {
+    // Prints what is gathered.
+    fn flush(&mut self)
+        ensures { self.new.gathered.items ≡ [] }
+    {
+        if self.printed.is_ok() {
+            self.printed = self.rt.stdout().write_all(self.gathered.as_slice());
+        }
+        self.gathered.clear();
+    }
 }
 
 impl<'a> Answers for Printer<'a> {
     ghost took = { λ _ _ _. Unit {0} };
 
     fn take(&mut self, block: &[u8; 32]) {
-        if self.printed.is_ok() {
-            self.printed = self.rt.stdout().write_all(&block[..text_len(block)]);
+        if self.gathered.remaining_capacity() < block.len() {
+            self.flush();
         }
+        let text = &block[..text_len(block)];
+        self.gathered.try_extend_from_slice(text).unwrap();
     }
 }
 
@@ -67,8 +87,10 @@ fn main(rt: HostRuntime) -> io::Result<()> {
     let mut sets = HalvedLinks::new(&mut links);
     let mut printer = Printer {
         rt: &rt,
+        gathered: ArrayVec::new(),
         printed: Ok(()),
     };
     run_file(&input[..len], &mut model, &mut sets, &mut printer);
+    printer.flush();
     printer.printed
 }

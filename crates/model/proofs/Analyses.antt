@@ -1,8 +1,9 @@
 -- What an analysis makes of a store and of a model.
-use Rattle.std.proofs.Common.{ℕ, Bool, true, ltb, [], ◌∷◌, None, Ok, Err, Result, sym, subst, ◌≡◌, List, ◌++◌, drop, ap, ◌∙◌}
-use Rattle.std.proofs.lemmas.List.{take-append-drop}
+use Rattle.std.proofs.Common.{ℕ, ◌-◌, Bool, true, ltb, [], ◌∷◌, None, Ok, Err, Result, sym, subst, ◌≡◌, List, ◌++◌, length, take, drop, ap, ◌∙◌, arith}
+use Rattle.std.proofs.lemmas.List.{take-append-drop, length-take-le, get_or-take}
 use Rattle.std.proofs.lemmas.Bool.{lt-ltb}
 use Rattle.pattern.specs.Elimination.{total}
+use Rattle.pattern.specs.Forest.{Grows}
 use Rattle.std.specs.Borrow.{MutBor}
 use Rattle.std.specs.Result.{IsErr, IsErrAnd, MatchResult}
 use Rattle.std.proofs.lemmas.Result.{MatchResult-from_err}
@@ -10,15 +11,22 @@ use Rattle.sets.specs.declared.refusals.NoRoom.{NoRoom}
 use Rattle.model.specs.declared.refusals.Refusal.{Refusal}
 use Rattle.sets.specs.Meaning.{Sets}
 use Rattle.analysis.specs.Analysed as analysis
+use Rattle.analysis.specs.Analysed.{Answered}
+use Rattle.analysis.specs.Growth.{Tree}
+use Rattle.analysis.specs.Order.{Forest}
+use Rattle.analysis.specs.Settling as settling
+use Rattle.analysis.specs.Tables.{no_vertex, parent_of}
+use Rattle.analysis.proofs.SettledTops.{settled_roots}
+use Rattle.analysis.proofs.Tops.{tree_grows}
 use Rattle.analysis.specs.declared.records.Entry.{Entry}
 use Rattle.analysis.specs.declared.records.Vertex.{Vertex}
 use Rattle.model.specs.declared.models.Model.{Model}
 use Rattle.model.specs.declared.refusals.Refusal.TheVariants.{SetsTooSmall}
 use Rattle.model.specs.declared.stores.Store.{Store}
-use Rattle.model.specs.Analysing.{Analysed, Refused}
+use Rattle.model.specs.Analysing.{Analysed, Refused, Settled, Unsettled}
 use Rattle.model.specs.Meaning.{meaning, Outcome}
-use Rattle.model.specs.States.{Analyse, empty, first_of, first_refusal}
-use Rattle.model.specs.Stored.{held_by}
+use Rattle.model.specs.States.{Analyse, pattern_in, empty, first_of, first_refusal}
+use Rattle.model.specs.Stored.{held_by, means}
 use Rattle.model.proofs.Keeping.{same_model, same_store}
 use Rattle.model.proofs.Rules.{none_of, refused}
 
@@ -65,3 +73,41 @@ analyse_refused m n before after x (Err d) made is named =
     subst (λ (after : Model). Outcome (Analyse before.size) m after x (Err d)) (same_model m n (sym is.store))
     (subst (λ e. Outcome (Analyse before.size) m m x (Err e)) (sym named)
     (refused _ m x _ (analyse_first m before.size true made (lt-ltb _ _ is.narrow))))
+
+-- What an analysis leaves of the vertices held: the front of the table has the parents of the pattern.
+module _ (s : Store) (answers : Answered (pattern_in (means s)) s.vertices.now) where
+  abbrev front : List Vertex
+  front = take s.order s.vertices.now
+
+  long : length front ≡ s.order
+  long = length-take-le s.order s.vertices.now s.placed
+
+  front_tree : Tree (pattern_in (means s)) front
+  front_tree =
+      record {
+        parents = λ v some fits.
+            ap (λ x. x.parent) (get_or-take s.order s.vertices.now (v - 1) no_vertex (omega arith))
+            ∙ answers.parents v some fits;
+      }
+
+  pub front_forest : Forest front
+  front_forest =
+      record {
+        few = omega (arith, long, s.small);
+        grows = subst (λ n. Grows n (parent_of front)) (sym long) (tree_grows _ front front_tree);
+      }
+
+  pub settled : (before after : Sets) (r : Result (Unit {0}) NoRoom) →
+      MatchResult r (λ _. settling.Settled front before after) (λ _. settling.Unsettled front before after) →
+      MatchResult r (λ _. Settled s before after) (λ _. Unsettled s before after)
+  settled before after (Ok u) is =
+      record {
+        room = omega (arith, long, is.room);
+        size = is.size;
+        tops = settled_roots _ front front_tree before after long is;
+      }
+  settled before after (Err e) is =
+      record {
+        narrow = omega (arith, long, is.narrow);
+        sets = record { size = is.size; used = is.used; tops = is.tops };
+      }

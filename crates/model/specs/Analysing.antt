@@ -1,12 +1,13 @@
 -- What an analysis makes of a store, and of the ancestor sets lent to it.
-use Rattle.std.specs.Prelude.{◌≡◌, ℕ, ◌<◌, true, length, is_ok, is_err, Some, Result}
+use Rattle.std.specs.Prelude.{◌≡◌, ℕ, ◌<◌, ◌≤◌, true, length, is_ok, is_err, Some, Result}
 use Rattle.pattern.specs.Patterns.{Pattern}
 use Rattle.sets.specs.Meaning.{Sets}
 use Rattle.analysis.specs.Analysed as analysis
 use Rattle.analysis.specs.Counts.{TopsAreRoots}
 use Rattle.model.specs.declared.refusals.Refusal.{Refusal}
 use Rattle.model.specs.declared.stores.Store.{Store}
-use Rattle.model.specs.Stored.{held_by}
+use Rattle.model.specs.States.{pattern_in}
+use Rattle.model.specs.Stored.{held_by, means}
 
 -- nothing has changed of what the sets stand for
 pub record Untouched (s t : Sets) : Type 0 where
@@ -27,6 +28,16 @@ pub record Analysed (s t : Store) (before after : Sets) (sum : ℕ) : Type 0 whe
   pub total : t.total ≡ Some sum
   pub tall : length t.vertices.now ≡ length s.vertices.now
   pub long : length t.entries.now ≡ length s.entries.now
+
+-- The store is analysed: the vertices of the pattern held are in use, and the top of each is the root of its tree.
+pub record Settled (s : Store) (before after : Sets) : Type 0 where
+  pub room : s.order ≤ before.size
+  pub size : after.size ≡ before.size
+  pub tops : TopsAreRoots (pattern_in (means s)) after
+
+pub record Unsettled (s : Store) (before after : Sets) : Type 0 where
+  pub narrow : before.size < s.order
+  pub sets : Untouched before after
 
 -- What the sets stand for after an analysis of the pattern p that answers r. Refused, what they stood for; accepted,
 -- the vertices of p are in use and the top of each is the root of its tree.

@@ -1,15 +1,18 @@
 // The analysis of what a model holds.
 ghost use Rattle.std.specs.Prelude.{◌≤◌, MatchResult};
 ghost use Rattle.pattern.specs.Elimination.{total};
-ghost use Rattle.model.specs.Analysing.{Analysed, Refused, SetsAfter};
+ghost use Rattle.analysis.specs.Analysed.{Answered};
+ghost use Rattle.model.specs.Analysing.{Analysed, Refused, Settled, Unsettled, SetsAfter};
 ghost use Rattle.model.specs.Asked.{pattern_held};
 ghost use Rattle.model.specs.Meaning.{Outcome};
-ghost use Rattle.model.specs.States.{Analyse};
+ghost use Rattle.model.specs.States.{Analyse, pattern_in};
+ghost use Rattle.model.specs.Stored.{means};
 
 use crate::models::Model;
 use crate::refusals::Refusal;
 use crate::stores::Store;
 use analysis::analyse;
+use analysis::settling::settle;
 use sets::{AncestorSets, NoRoom};
 
 impl Store<'_> {
@@ -26,10 +29,22 @@ impl Store<'_> {
         self.total = Some(total);
         Ok(total)
     }
+
+    // Puts each vertex of an analysed store below its parent in the sets. Refused, with nothing changed, if the sets
+    // have no room for the order.
+    fn settle<S: AncestorSets>(&self, sets: &mut S) -> Result<(), NoRoom>
+        requires { Answered (pattern_in (means self.now)) self.now.vertices.now }
+        ensures { MatchResult result
+            (λ _. Settled self.now (S.meaning sets.old) (S.meaning sets.new))
+            (λ _. Unsettled self.now (S.meaning sets.old) (S.meaning sets.new)) }
+    {
+        settle(&self.vertices[..self.order as usize], sets)
+    }
 }
 
 impl Model<'_> {
-    // Analyses the model with ancestor sets lent for it; answers the sum of all column counts.
+    // Analyses the model with ancestor sets lent for it; answers the sum of all column counts. Where it is analysed
+    // already, only the sets are to follow.
     pub fn analyse<S: AncestorSets>(&mut self, sets: &mut S) -> Result<u64, Refusal>
         ensures outcome { Outcome (Analyse (S.meaning sets.old).size)
             self.old self.new (total (pattern_held self.old)) result }
@@ -37,6 +52,10 @@ impl Model<'_> {
             (S.meaning sets.old) (S.meaning sets.new) result }
     {
         self.judge_made()?;
+        if let Some(total) = self.store.total {
+            self.store.settle(sets)?;
+            return Ok(total);
+        }
         Ok(self.store.analyse(sets)?)
     }
 }

@@ -1,7 +1,7 @@
 // What a model accepts and refuses, at the edges of each rule.
 use crate::{Refusal, Side, judge, make};
 use analysis::records::{Entry, Vertex};
-use sets::HalvedLinks;
+use sets::{AncestorSets, HalvedLinks, WrittenTops};
 
 #[test]
 fn orders(rt: HostRuntime) {
@@ -101,4 +101,30 @@ fn questions(rt: HostRuntime) {
     assert_eq!(rt; model.row_count(3), Ok(3));
     assert_eq!(rt; model.drop_entry(2, 3), Ok(1));
     assert_eq!(rt; model.total(), Err(Refusal::NotAnalysed));
+}
+
+// Analysed already: the total is as it was, and other sets come to have the roots as tops, if they have room.
+#[test]
+fn analysed_again(rt: HostRuntime) {
+    let mut vertices = [Vertex::new(); 4];
+    let mut entries = [Entry::new(); 2];
+    let mut numbers = [0; 3];
+    let mut model = make(3, &mut vertices, &mut entries);
+    let mut sets = HalvedLinks::new(&mut numbers);
+    assert_eq!(rt; model.put(1, 3), Ok(1));
+    assert_eq!(rt; model.analyse(&mut sets), Ok(4));
+    let mut more_numbers = [0; 4];
+    let mut more_sets = WrittenTops::new(&mut more_numbers);
+    assert_eq!(rt; more_sets.start(4), Ok(()));
+    assert_eq!(rt; more_sets.merge(3, 2), Ok(()));
+    assert_eq!(rt; model.analyse(&mut more_sets), Ok(4));
+    assert_eq!(rt; more_sets.find(1), Some(3));
+    assert_eq!(rt; more_sets.find(2), Some(2));
+    assert_eq!(rt; more_sets.find(3), Some(3));
+    assert_eq!(rt; more_sets.find(4), None);
+    let mut few_numbers = [0; 2];
+    let mut few_sets = WrittenTops::new(&mut few_numbers);
+    assert_eq!(rt; model.analyse(&mut few_sets), Err(Refusal::SetsTooSmall));
+    assert_eq!(rt; few_sets.find(1), None);
+    assert_eq!(rt; model.total(), Ok(4));
 }
