@@ -1,4 +1,5 @@
-// The row and column counts by one pass over the entries, in the order of the places.
+// The row and column counts by one pass over the entries, in the order of the places. That a call leaves all but the
+// counts as it was, and the sets' size, has to be said by each, since a caller sees only its clauses.
 ghost use Rattle.std.specs.Prelude.{◌≡◌, ◌-◌, ◌≤◌, map, length};
 ghost use Rattle.pattern.specs.Patterns.{Pattern};
 ghost use Rattle.pattern.specs.Elimination as elimination;
@@ -53,7 +54,7 @@ fn take_children(vertices: &mut [Vertex])
     requires { Forest vertices.old }
     ensures { ChildrenTaken (length vertices.old) vertices.old vertices.new }
 {
-    // By number, as each step writes another record.
+    // By number, as each step writes another record: a loop over the slice can't, and to split it is no plainer.
     for v in 1..=vertices.len() {
         take_child(v, vertices);
     }
@@ -138,7 +139,7 @@ fn count_walk<S: AncestorSets>(vertices: &mut [Vertex], entries: &[Entry], sets:
     ensures only { Only counts_from vertices.old vertices.new }
     ensures size { (S.meaning sets.new).size ≡ (S.meaning sets.old).size }
 {
-    // By the place: the body writes the table that the walk is read from.
+    // By the place: the body writes the table that the walk is read from, so that no loop over the slice can.
     for i in 0..vertices.len() {
         let x = vertices[i].at;
         count_vertex(x, vertices, entries, sets);

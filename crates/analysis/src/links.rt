@@ -5,7 +5,8 @@ ghost use Rattle.analysis.specs.Links.{Listed};
 
 use crate::records::{End, Entry, Vertex};
 
-// The vertex at one end of an entry. The end has a name, not a closure: clauses say by it which lists there are.
+// The vertex at one end of an entry. The end has a name: clauses say by it which lists there are, and a closure beside
+// it would be no plainer.
 fn end_of(which: End, entry: Entry) -> u32
     ensures { result ≡ end_of which (pair_of entry) }
 {

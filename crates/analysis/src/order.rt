@@ -31,7 +31,7 @@ fn levels(vertices: &mut [Vertex])
     ensures levels { Levelled (length vertices.new) vertices.new }
     ensures only { Only level_from vertices.old vertices.new }
 {
-    // By number, as each step reads another record.
+    // By number, as each step reads another record: a loop over the slice can't, and to split it is no plainer.
     for v in (1..=vertices.len()).rev() {
         vertices[v - 1].level = level_under(vertices[v - 1].parent, vertices);
     }
@@ -99,7 +99,7 @@ fn places(vertices: &mut [Vertex])
     ensures only { Only place_from vertices.old vertices.new }
 {
     let mut free = vertices.len() as u32;
-    // By number, as each step writes another record too.
+    // By number, as each step writes another record too: to split the slice would be no plainer.
     for v in (1..=vertices.len()).rev() {
         free = take_place(v, free, vertices);
     }
@@ -124,7 +124,7 @@ fn walk_order(vertices: &mut [Vertex])
     ensures walk { Walked (length vertices.new) vertices.new }
     ensures only { Only at_from vertices.old vertices.new }
 {
-    // By number, as each step writes another record.
+    // By number, as each step writes another record: to split the slice would be no plainer.
     for v in 1..=vertices.len() {
         note_place(v, vertices);
     }

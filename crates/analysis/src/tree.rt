@@ -67,7 +67,7 @@ pub fn grow<S: AncestorSets>(vertices: &mut [Vertex], entries: &[Entry], sets: &
     ensures only { Only parent_from vertices.old vertices.new }
 {
     begin_tree(vertices);
-    // By number, as each row writes other records.
+    // By number, as each row writes other records: to split the slice would be no plainer.
     for u in 1..=vertices.len() as u32 {
         adopt_row(u, vertices, entries, sets);
     }

@@ -1,6 +1,7 @@
 // The run of a file: what each line makes of the model, and its answer.
 // The model and the sets stay two parameters: each method of a struct that held them would have to say that it still
-// holds the same two. That the sets' size stays has to be said by each function, since a caller sees only its clauses.
+// holds the same two. That the sets' size stays has to be said by each function up to the one of a line, since a caller
+// sees only its clauses.
 ghost use Rattle.std.specs.Prelude.{◌≡◌, ℕ};
 ghost use Rattle.frame_text.specs.Records.{asks, makes, part_of, statement_of};
 ghost use Rattle.model.specs.Asked.{asked};

@@ -84,8 +84,8 @@ impl<'a> Field<'a> {
         Ok(digits_value(self.bytes))
     }
 
-    // The number that the field writes, or 0 if it writes none, which no record's field does. A record borrows its
-    // fields from the file, the project's form for it, so that a number is read again where it is used.
+    // The number that the field writes, or 0 if it writes none, which no number field of a record does. A record
+    // borrows its fields from the file, the project's form for it, so that a number is read again where it is used.
     pub fn value(&self) -> u32
         ensures number { result ≡ value_of self.now.bytes.now }
         ensures bound { result ≤ 99999 }

@@ -30,7 +30,7 @@ pub fn gather<J: Joining + Copy, N: Node<J>>(nodes: &mut [N])
     requires grows { Grows (length nodes.old) (field_of N.blank N.above nodes.old) }
     ensures { Gathered J.nothing J.joined N.blank N.above N.held N.holding (length nodes.old) nodes.old nodes.new }
 {
-    // By number, as each step writes another record than its own.
+    // By number, as each step writes another record than its own: to split the slice would be no plainer.
     for v in 1..=nodes.len() {
         join_up(nodes, v);
     }

@@ -10,7 +10,7 @@ use crate::numbers::Numbers;
 use crate::refusals::Refusal;
 
 impl Model<'_> {
-    // What the analysis answers of v. Each question below is a call that users have; all share this one.
+    // What the analysis answers of v. Each question of a vertex below is a call that users have; all six share this.
     fn ask(&self, v: u32) -> Result<Numbers, Refusal>
         ensures { result ≡ asked numbers_of self.now v }
     {

@@ -9,7 +9,7 @@ use analysis::records::{Entry, Vertex};
 
 #[derive(Drop)]
 pub struct Store<'a> {
-    // 0 of the empty model, which is a model like any other
+    // 0 of the empty model: the number that is answered, so that an option would be no plainer
     pub order: u32,
     // how many are held at the start of the entry table, which is lent whole: nothing is allocated
     pub held: u32,
