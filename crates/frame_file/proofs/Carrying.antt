@@ -2,12 +2,14 @@
 use Rattle.std.proofs.Common.{◌≡◌, ℕ, Bool, true, false, true≢false, cond, not, length, is_err, Some, None, Ok, Err, Option, Result, sym, refl, ap, ◌∙◌, subst, arith}
 use Rattle.std.specs.Result.{MatchResult, result_map_both}
 use Rattle.model.specs.Meaning.{meaning, Outcome}
-use Rattle.model.specs.States.{State, Given, first_refusal, answer, accepted, if_accepted, step}
+use Rattle.model.specs.States.{State, Given, Analyse, first_refusal, answer, accepted, if_accepted, pattern_in, step}
+use Rattle.pattern.specs.Elimination.{total}
 use Rattle.model.specs.declared.models.Model.{Model}
 use Rattle.model.specs.declared.refusals.Refusal.{Refusal}
-use Rattle.frame_text.specs.Records.{Statement, statement_of}
+use Rattle.frame_text.specs.Records.{Statement, analyses, statement_of}
 use Rattle.frame_text.specs.declared.records.Record.{Record}
 use Rattle.frame_text.specs.declared.answers.Answer.{Answer}
+use Rattle.frame_text.specs.declared.answers.Answer.TheVariants as says
 use Rattle.frame_file.specs.declared.faults.RunFault.{RunFault}
 use Rattle.frame_file.specs.declared.faults.RunFault.TheVariants.{OutOfPlace, Refused}
 use Rattle.frame_file.specs.declared.states.RunState.{RunState}
@@ -32,10 +34,16 @@ by_refusal z t before after x tell None r full turns says keeps told =
     record {
       state = turns;
       answer = ap (result_map_both bare (λ e. e)) told ∙ ap Ok says;
+      keeps = λ err. absurd (cc);
       table = λ none. absurd (true≢false (sym none ∙ ap empty turns ∙ full refl));
     }
 by_refusal z t before after x tell (Some refusal) r full turns says keeps told =
-    record { state = turns; answer = ap (result_map_both bare (λ e. e)) told; table = λ _. ap places (keeps refl) }
+    record {
+      state = turns;
+      answer = ap (result_map_both bare (λ e. e)) told;
+      keeps = λ _. keeps refl;
+      table = λ _. ap places (keeps refl);
+    }
 
 -- what is told of a call that is given two vertices and answers how many entries are held
 pub held_told : {size : ℕ} (t : Statement) (given : ℕ → ℕ → Given) (i j : ℕ) {i' j' : ℕ} {before after : Model}
@@ -64,17 +72,38 @@ held_told {size} t given i j {i'} {j'} {before} {after} tell {r} {r'} ei ej firs
     (ap (λ u. bare (tell (length u.entries))) (sym o'.turns) ∙ tells (meaning after))
     (λ e. o'.keeps (ap is_err o'.answers ∙ e)) (subst M o'.answers told))
 
+-- an analysis leaves the pattern
+same_pattern : (s : State) (size : ℕ) (f : Option Refusal) →
+    pattern_in (if_accepted f (accepted s (Analyse size)) s) ≡ pattern_in s
+same_pattern s size None = refl
+same_pattern s size (Some refusal) = refl
+
+-- what is told of an analysis
+pub analysis_told : {size : ℕ} {before after : Model} {r : Result ℕ Refusal} {r' : Result Answer Refusal}
+    → Outcome (Analyse size) before after (total (pattern_in (meaning before))) r
+    → MatchResult r (λ y. r' ≡ Ok (says.Analysed y)) (λ e. r' ≡ Err e)
+    → Does size (judged analyses) before after r'
+analysis_told {size} {before} {after} {r} {r'} o told =
+    let s : State = meaning before in
+    let f : Option Refusal = first_refusal s (Analyse size) in
+    let M : Result ℕ Refusal → Type 0 = λ q. MatchResult q (λ y. r' ≡ Ok (says.Analysed y)) (λ e. r' ≡ Err e) in
+    by_refusal (lent_with before size) analyses before after (total (pattern_in s)) says.Analysed f r' (passed _ _ _) o.turns
+    (sym (ap (λ u. says.Analysed (total (pattern_in u))) o.turns
+    ∙ ap (λ p. says.Analysed (total p)) (same_pattern s size f)))
+    (λ e. o.keeps (ap is_err o.answers ∙ e)) (subst M o.answers told)
+
 -- a refused statement as a fault of its line
 lined : (z : Sizes) (line : ℕ) (t : Statement) (f : Option Refusal) (before after : Model) (r : Result Answer Refusal)
     (r' : Result Answer RunFault)
     → MatchResult r (λ a. r' ≡ Ok a) (λ e. r' ≡ Err (Refused line e))
     → Carried z (answer f t) before after r
     → Carried z (unless line f t) before after r'
-lined z line t None before after (Ok a) r' e c = record { state = c.state; answer = grind arith; table = c.table }
+lined z line t None before after (Ok a) r' e c =
+    record { state = c.state; answer = grind arith; keeps = c.keeps; table = c.table }
 lined z line t None before after (Err refusal) r' e c = let h = c.answer in grind arith
 lined z line t (Some refusal) before after (Ok a) r' e c = let h = c.answer in grind arith
 lined z line t (Some refusal) before after (Err refusal') r' e c =
-    record { state = c.state; answer = grind arith; table = c.table }
+    record { state = c.state; answer = grind arith; keeps = c.keeps; table = c.table }
 
 -- a statement that is in place is judged by the model alone
 pub in_its_place : {size : ℕ} (line : ℕ) (record' : Record) {t : Statement} {before after after' : Model} {r r₀ : Result Answer Refusal}

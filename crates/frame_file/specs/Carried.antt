@@ -1,5 +1,5 @@
 -- What carrying out a statement, as a verdict has it, makes of a model, and what it answers.
-use Rattle.std.specs.Prelude.{◌≡◌, ℕ, true, List, length, Result}
+use Rattle.std.specs.Prelude.{◌≡◌, ℕ, true, List, length, is_err, Result}
 use Rattle.std.specs.Result.{result_map_both}
 use Rattle.model.specs.Meaning.{meaning}
 use Rattle.model.specs.States.{State}
@@ -8,7 +8,7 @@ use Rattle.frame_text.specs.Answers.{whole_block}
 use Rattle.frame_text.specs.Records.{Statement}
 use Rattle.frame_text.specs.declared.answers.Answer.{Answer}
 use Rattle.frame_text.specs.declared.lines.Line.{Line}
-use Rattle.frame_file.specs.Runs.{Sizes, bare, empty, line_state, line_text, said, state_by}
+use Rattle.frame_file.specs.Runs.{Sizes, bare, empty, line_state, line_text, line_verdict, said, state_by}
 
 -- the length of a model's vertex table
 abbrev pub places : Model → ℕ
@@ -22,6 +22,8 @@ pub record Carried {E : Type 0} (z : Sizes) (v : Result Statement E) (before aft
     : Type 0 where
   pub state : meaning after ≡ state_by z (meaning before) v
   pub answer : result_map_both bare (λ fault. fault) r ≡ result_map_both (said (meaning after)) (λ fault. fault) v
+  -- what is refused leaves the whole model
+  pub keeps : is_err v ≡ true → after ≡ before
   -- so that a line that leaves the model empty leaves the next one the same vertex table
   pub table : empty (meaning after) ≡ true → places after ≡ places before
 
@@ -36,4 +38,6 @@ pub record LineAnswered (size : ℕ) (l : Line) (before after : Model) (answer :
   pub state : meaning after ≡ line_state (lent_with before size) (meaning before) l.number (l.bytes.now, l.ended)
   pub block : answer
       ≡ whole_block (line_text (lent_with before size) (meaning before) l.number (l.bytes.now, l.ended))
+  pub keeps : is_err (line_verdict (lent_with before size) (meaning before) l.number (l.bytes.now, l.ended)) ≡ true →
+      after ≡ before
   pub table : empty (meaning after) ≡ true → places after ≡ places before

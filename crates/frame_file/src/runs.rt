@@ -147,6 +147,7 @@ pub fn run_file<S: AncestorSets, A: Answers>(
         file_state (lent_with model.old (S.meaning sets.old).size) (means model.old) file.now }
     ensures answers { FileAnswered A.took (lent_with model.old (S.meaning sets.old).size)
         (means model.old) file.now answers.old answers.new }
+    ensures room { (S.meaning sets.new).size ≡ (S.meaning sets.old).size }
 {
     if file.len() > FILE_MOST {
         answers.take(&Answer::from(RunFault::FileTooLong).block());

@@ -1,5 +1,5 @@
 -- Which of several rules is met first, and what that makes of a call's outcome.
-use Rattle.std.proofs.Common.{not, is_some, Result, subst, ◌≡◌, true, false, List, [], ◌∷◌, ◌++◌, Some, None, Ok, Err, Option, sym, refl, ap, ◌∙◌}
+use Rattle.std.proofs.Common.{not, is_some, Result, subst, ◌≡◌, true, false, List, [], ◌∷◌, ◌++◌, length, Some, None, Ok, Err, Option, sym, refl, ap, ◌∙◌}
 use Rattle.std.specs.Option.{ok_or}
 use Rattle.std.specs.Result.{IsErrAnd}
 use Rattle.model.specs.declared.models.Model.{Model}
@@ -35,15 +35,18 @@ refused g m x f is =
       answers = ap (λ o. answer o x) (sym is);
       turns = ap (λ o. if_accepted o (accepted (meaning m) g) (meaning m)) (sym is);
       keeps = λ _. refl;
+      table = refl;
     }
 
 pub carried : {X : Type 0} (g : Given) (m n : Model) (x y : X) → first_refusal (meaning m) g ≡ None →
-    meaning n ≡ accepted (meaning m) g → y ≡ x → Outcome g m n x (Ok y)
-carried g m n x y is turned same =
+    meaning n ≡ accepted (meaning m) g → y ≡ x → length n.store.vertices.now ≡ length m.store.vertices.now →
+    Outcome g m n x (Ok y)
+carried g m n x y is turned same long =
     record {
       answers = ap Ok same ∙ ap (λ o. answer o x) (sym is);
       turns = turned ∙ ap (λ o. if_accepted o (accepted (meaning m) g) (meaning m)) (sym is);
       keeps = λ err. absurd (cc);
+      table = long;
     }
 
 -- a call that answers as an option that holds nothing does

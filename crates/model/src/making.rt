@@ -24,9 +24,12 @@ pub fn judge(order: u32, vertices: &[Vertex]) -> Result<(), Refusal>
     Ok(())
 }
 
-// A model that holds no entry: of the order given, or the empty one where `judge` refuses.
+// A model that holds no entry: of the order given, or the empty one where `judge` refuses. It has the two tables whole,
+// as they are.
 pub fn make<'a>(order: u32, vertices: &'a mut [Vertex], entries: &'a mut [Entry]) -> Model<'a>
-    ensures { meaning result ≡ made order (length vertices.old) (length entries.old) }
+    ensures state { meaning result ≡ made order (length vertices.old) (length entries.old) }
+    ensures vertices { result.store.vertices.now ≡ vertices.old }
+    ensures entries { result.store.entries.now ≡ entries.old }
 {
     let order = judge(order, vertices).map_or(0, |()| order);
     Model {

@@ -6,7 +6,7 @@ use Rattle.frame_text.specs.Records.{statement_of, drops, part_of, puts}
 use Rattle.frame_text.specs.declared.answers.Answer.TheVariants as says
 use Rattle.frame_file.specs.declared.faults.RunFault.TheVariants.{Refused}
 use Rattle.frame_file.specs.Runs.{number}
-use Rattle.frame_file.proofs.Carrying.{after_model, before_model, held_told, in_its_place, passed}
+use Rattle.frame_file.proofs.Carrying.{after_model, analysis_told, before_model, held_told, in_its_place, passed}
 use Rattle.frame_file.proofs.runs.carry_out.Goals.{in-BeforeModel-Make, in_default-Put, in_default-Drop, in_default-Analyse, in_default-Ask}
 use Rattle.frame_file.proofs.runs.carry_out.Goals as goal
 
@@ -34,7 +34,8 @@ returns-clause-carried g c =
           (search rules))
       | in_default-Analyse w ↦
           in_its_place _ c.args.record (ap statement_of w.in_default-Analyse.is-1) w.model-is w.map_err-is lined
-          (after_model _ _ c.run_state.ensures w.in_default-Analyse.not-BeforeModel-0) (search rules)
+          (after_model _ _ c.run_state.ensures w.in_default-Analyse.not-BeforeModel-0)
+          (analysis_told w.analyse.ensures.outcome (search rules))
       | in_default-Ask w ↦
           in_its_place _ c.args.record (ap statement_of w.in_default-Ask.is-1) w.model-is w.map_err-is lined
           (after_model _ _ c.run_state.ensures w.in_default-Ask.not-BeforeModel-0) (w.ask.ensures _)

@@ -24,4 +24,4 @@ returns c =
     let fine = judged _ _ _ _ (sym c.judge_entry.ensures ∙ c.in_ok-pair.was) in
     let at = c.ok_or.ensures.ok_part ∙ ap result_ok c.in_ok-at.was in
     counted _ _ _ (drop_first c.args.self.now _ _ _ _ true fine c.find.ensures (ap is_some at))
-    (drop_turned c.args.self.now.store _ _ _ _ _ _ fine c.find.ensures at c.remove.ensures)
+    (drop_turned c.args.self.now.store _ _ _ _ _ _ fine c.find.ensures at c.remove.ensures) c.remove.ensures.others

@@ -26,4 +26,4 @@ returns c =
     let fine = judged _ _ _ _ (sym c.judge_entry.ensures ∙ c.in_ok-pair.was) in
     let space = ne_eqb _ _ (λ full. c.if-self-capacity.false (full ∙ sym c.capacity.ensures)) in
     counted _ _ _ (put_first c.args.self.now _ _ _ _ false false fine c.find.ensures (sym c.if-is_some.ensures) space)
-    (put_turned c.args.self.now.store _ _ _ _ fine c.push.ensures)
+    (put_turned c.args.self.now.store _ _ _ _ fine c.push.ensures) c.push.ensures.others
