@@ -7,7 +7,7 @@ use crate::records::Vertex;
 use gather::joining::{Child, Node};
 use gather::kinds::{GreatestLevel, LeastPlace, Weight};
 
-impl Child for Vertex {
+impl<J> Child<J> for Vertex {
     ghost blank = { no_vertex };
 
     ghost above = { λ x. x.parent };

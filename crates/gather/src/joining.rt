@@ -22,8 +22,9 @@ pub trait Joining: Sized {
     ghost laws: { JoiningLaws nothing joined fits };
 }
 
-// A vertex's record that says who its parent is.
-pub trait Child: Sized {
+// A vertex's record that says who its parent is, where values of the kind J are gathered. Most records have one parent
+// whatever is gathered, and say it once, by an impl for every J.
+pub trait Child<J>: Sized {
     // What is read where a table has no record.
     ghost blank: { Self };
 
@@ -35,7 +36,7 @@ pub trait Child: Sized {
 }
 
 // Such a record with a value of the kind J in one of its fields.
-pub trait Node<J: Joining>: Child {
+pub trait Node<J: Joining>: Child<J> {
     ghost held: { Self → J };
 
     // The record with its value set, and nothing else changed.

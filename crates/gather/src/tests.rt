@@ -17,7 +17,7 @@ struct Vertex {
     level: u32,
 }
 
-impl Child for Vertex {
+impl<J> Child<J> for Vertex {
     ghost blank = { record { parent = 0; weight = pos 0; place = 0; level = 0 } };
 
     ghost above = { λ x. x.parent };
@@ -89,7 +89,7 @@ fn made(parent: u32, weight: i64, place: u32, level: u32) -> Vertex
 
 // 6 is the root; 1 lies below 4, and 2 below 3 below 5.
 fn tree() -> [Vertex; 6]
-    ensures { Grows 6 (field_of ⟦<Vertex as Child>⟧.blank ⟦<Vertex as Child>⟧.above result) }
+    ensures { Grows 6 (field_of ⟦<Vertex as Child<Weight>>⟧.blank ⟦<Vertex as Child<Weight>>⟧.above result) }
 {
     [
         made(4, 1, 4, 3),
@@ -134,7 +134,7 @@ fn sizes_of_a_tree(rt: HostRuntime) {
 
 // 2 and 4 are roots; the fifth record is no vertex of the forest.
 fn forest() -> [Vertex; 5]
-    ensures { Grows 4 (field_of ⟦<Vertex as Child>⟧.blank ⟦<Vertex as Child>⟧.above result) }
+    ensures { Grows 4 (field_of ⟦<Vertex as Child<Weight>>⟧.blank ⟦<Vertex as Child<Weight>>⟧.above result) }
 {
     [
         made(2, i64::MAX, 0, 0),
