@@ -154,3 +154,92 @@ fn wraps_over_a_forest(rt: HostRuntime) {
         [i64::MAX, i64::MIN, 5, 11, 7]
     );
 }
+
+// A record that lies in two forests: in one for its weight, and in another for its level.
+#[derive(Clone, Copy)]
+struct Twofold {
+    heavier: u32,
+    higher: u32,
+    weight: i64,
+    level: u32,
+}
+
+impl Child<Weight> for Twofold {
+    ghost blank = { record { heavier = 0; higher = 0; weight = pos 0; level = 0 } };
+
+    ghost above = { λ x. x.heavier };
+
+    fn parent(&self) -> u32 {
+        self.heavier
+    }
+}
+
+impl Node<Weight> for Twofold {
+    ghost held = { λ x. weight x.weight };
+
+    ghost holding = { λ x value. record x { weight = value.0 } };
+
+    ghost laws = { Prim.search rules };
+
+    fn value(&self) -> Weight {
+        Weight(self.weight)
+    }
+
+    fn set_value(&mut self, value: Weight) {
+        self.weight = value.0;
+    }
+}
+
+impl Child<GreatestLevel> for Twofold {
+    ghost blank = { record { heavier = 0; higher = 0; weight = pos 0; level = 0 } };
+
+    ghost above = { λ x. x.higher };
+
+    fn parent(&self) -> u32 {
+        self.higher
+    }
+}
+
+impl Node<GreatestLevel> for Twofold {
+    ghost held = { λ x. greatest_level x.level };
+
+    ghost holding = { λ x value. record x { level = value.0 } };
+
+    ghost laws = { Prim.search rules };
+
+    fn value(&self) -> GreatestLevel {
+        GreatestLevel::from(self.level)
+    }
+
+    fn set_value(&mut self, value: GreatestLevel) {
+        self.level = value.0;
+    }
+}
+
+#[test]
+fn a_parent_for_each_kind(rt: HostRuntime) {
+    let mut nodes = [
+        Twofold {
+            heavier: 2,
+            higher: 3,
+            weight: 1,
+            level: 9,
+        },
+        Twofold {
+            heavier: 0,
+            higher: 0,
+            weight: 10,
+            level: 5,
+        },
+        Twofold {
+            heavier: 0,
+            higher: 0,
+            weight: 100,
+            level: 7,
+        },
+    ];
+    gather::<Weight, Twofold>(&mut nodes);
+    gather::<GreatestLevel, Twofold>(&mut nodes);
+    assert_eq!(rt; nodes.map(|node| node.weight), [1, 11, 100]);
+    assert_eq!(rt; nodes.map(|node| node.level), [9, 5, 9]);
+}
