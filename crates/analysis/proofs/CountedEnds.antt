@@ -13,7 +13,7 @@ use Rattle.pattern.specs.Counts.{sum_ℤ}
 use Rattle.pattern.specs.Passes.{weight_so_far}
 use Rattle.pattern.proofs.Lists.{in_keep, keep_grows, sum_next, length_upto}
 use Rattle.pattern.proofs.Agree.{children_agrees, subtree_agrees}
-use Rattle.pattern.proofs.Passes.{happened_none, last_none, row_none, weight_none, passing_none}
+use Rattle.pattern.proofs.Passes.{happened_none, last_none, last_place_none, row_none, weight_none, passing_none}
 use Rattle.pattern.proofs.Passes.{met_to_none, met_to_end}
 use Rattle.pattern.proofs.PassCounts.{row_passed}
 use Rattle.pattern.proofs.PassWeights.{column_passed}
@@ -51,6 +51,7 @@ counting_none p vs bs ws long wide ready is taken =
             (children_agrees p.order (parent_of bs) (parent p) ready.parents v)
             ∙ ap (int_wrap w64) (sym (weight_none p v));
         lasts = λ v l h. ap (λ x. x.last) (taken.only v) ∙ ap (λ x. x.last) (at v l h) ∙ sym (last_none v);
+        mets = λ v l h. ap (λ x. x.met) (taken.only v) ∙ ap (λ x. x.met) (at v l h) ∙ sym (last_place_none p v);
       };
     }
 

@@ -3,23 +3,23 @@ use Rattle.std.proofs.Common.{◌≡◌, ℕ, suc, ◌+◌, ◌-◌, ◌<◌, �
 use Rattle.std.specs.Int.{int_wrap}
 use Rattle.std.proofs.lemmas.Int.{int_wrap-add_same}
 use Rattle.std.proofs.lemmas.List.{length-map}
-use Rattle.std.proofs.lemmas.Bool.{cases_lt, cases_order, cond-true, cond-false, cond_both}
+use Rattle.std.proofs.lemmas.Bool.{cases_Bool, cases_lt, cases_order, ltb-false, cond-true, cond-false, cond_both}
 use Rattle.std.proofs.lemmas.Bool.Decides.{nat_tests}
 use Rattle.pattern.specs.Patterns.{Pattern, shares}
 use Rattle.pattern.specs.Elimination.{parent}
 use Rattle.pattern.specs.Analysis.{place_of, level_of}
 use Rattle.pattern.specs.Walks.{at_place}
 use Rattle.pattern.specs.Tops.{top_after}
-use Rattle.pattern.specs.Passes.{happened, last_met, bend_at, one_if, weight_so_far, Passing}
+use Rattle.pattern.specs.Passes.{happened, last_met, MetUnder, bend_at, one_if, weight_so_far, Passing}
 use Rattle.pattern.proofs.Tests as tests
 use Rattle.pattern.proofs.Tree.{parents_grow}
 use Rattle.pattern.proofs.Agree.{grows_agrees}
 use Rattle.pattern.proofs.Entries.{entry_shares, shares_entry}
 use Rattle.pattern.proofs.Places.{place_bounds, place_rises, at_place_vertex, place_at}
 use Rattle.pattern.proofs.Tops.{top_here, top_step, top_at_first, top_at_last}
-use Rattle.pattern.proofs.Passes.{happened_now, happened_before, happened_cases, last_more, row_more, row_own}
+use Rattle.pattern.proofs.Passes.{happened_cases, last_more, last_place_more, row_more, row_own}
 use Rattle.pattern.proofs.Passes.{weight_more, passing_more, passing_older, new_lower, last_fits}
-use Rattle.pattern.proofs.Passes.{MetTo, met_to_next}
+use Rattle.pattern.proofs.Passes.{under_before, under_now, under_last, MetTo, met_to_next}
 use Rattle.pattern.proofs.Passes.{bend_first, bend_lies, bend_top}
 use Rattle.pattern.proofs.PassCounts.{row_fits}
 use Rattle.sets.specs.Meaning as sets
@@ -32,7 +32,7 @@ use Rattle.analysis.specs.Links.{newest, AllLinked}
 use Rattle.analysis.specs.Growth.{pattern_of, pattern_in, Fresh}
 use Rattle.analysis.specs.Order.{Forest}
 use Rattle.analysis.specs.Counts.{Prepared, Passed, Ready, Tallied, Counting, TopsAt, TopsAreRoots, SameTops}
-use Rattle.analysis.specs.Counts.{Climbs, meets_at, EntryCounted}
+use Rattle.analysis.specs.Counts.{Climbs, meets_at, EntryCounted, is_leaf, EntryPassed}
 use Rattle.analysis.proofs.Tops.{among_true, among_parts}
 use Rattle.analysis.proofs.Chains.{Met, Taken, newest_last, pair_at, sound_at, listed_only}
 
@@ -42,6 +42,8 @@ ready_only p vs ws only ready =
     record {
       parents = λ v l h. ap (λ x. x.parent) (only v) ∙ ready.parents v l h;
       levels = λ v l h. ap (λ x. x.level) (only v) ∙ ready.levels v l h;
+      places = λ v l h. ap (λ x. x.place) (only v) ∙ ready.places v l h;
+      firsts = λ v l h. ap (λ x. x.first.0) (only v) ∙ ready.firsts v l h;
       walk = λ k l h. ap (λ x. x.at) (only k) ∙ ready.walk k l h;
     }
 
@@ -137,6 +139,11 @@ module _ (p : Pattern) (vs : List Vertex) (s : Sets) (x u : ℕ) (es : List (ℕ
             ∙ ap (int_wrap w64) (sym (weight_more p x u es v));
         lasts = λ v l h.
             counted.lasts v l ∙ ap (cond (eqb u v) x) (tallied.lasts v l h) ∙ sym (last_more x u es v);
+        mets = λ v l h.
+            let from = (new_lower p x u es new).from in
+            counted.mets v l
+            ∙ ap₂ (cond (eqb u v)) (ready.places x from.named from.fits) (tallied.mets v l h)
+            ∙ sym (last_place_more p x u es from.named v);
       }
 
 -- what a find answers, a vertex in use
@@ -160,9 +167,9 @@ pub record CountingAt (p : Pattern) (x k : ℕ) (vs : List Vertex) : Type 0 wher
   pub events : List (ℕ × ℕ)
   pub passing : Passing p events
   pub early : (y w : ℕ) → happened y w events ≡ true → place_of p y ≤ place_of p x
-  pub before : (y w : ℕ) → y < w → shares p y w ≡ true → place_of p y ≤ place_of p x - 1 → happened y w events ≡ true
+  pub before : (y w : ℕ) → y < w → shares p y w ≡ true → place_of p y ≤ place_of p x - 1 → MetUnder p y w events
   pub here : (j : ℕ) → k ≤ j → j < length p.entries → (get_or p.entries j (0, 0)).0 ≡ x →
-      happened x (get_or p.entries j (0, 0)).1 events ≡ true
+      MetUnder p x (get_or p.entries j (0, 0)).1 events
   pub tallied : Tallied p events vs
 
 -- at the head of the list
@@ -203,27 +210,62 @@ module _ (p : Pattern) (x u k : ℕ) (vs : List Vertex) (at : AtEntry p x u k) (
       (let t = at.fits in omega arith))))
       (λ y w h. c.early y w h)
 
-  -- on to the next entry of the list
-  pub counting_next : (ws : List Vertex) (next : ℕ) → next ≡ newest Low p.entries (k - 1) x →
-      Tallied p ((x, u) ∷ c.events) ws → CountingAt p x next ws
-  counting_next ws next e tallied =
+  new : tests.Vertex p.order x
+  new = let r = at.rises in let f = at.fits in record { named = at.some; fits = omega arith }
+
+  -- on to the next entry of the list, once one in the subtree of x is met as a lower neighbour of u
+  counting_on : (ws : List Vertex) (events : List (ℕ × ℕ)) (next : ℕ) → next ≡ newest Low p.entries (k - 1) x →
+      Passing p events → ((y w : ℕ) → happened y w events ≡ true → place_of p y ≤ place_of p x) →
+      ((y w : ℕ) → MetUnder p y w c.events → MetUnder p y w events) → MetUnder p x u events → Tallied p events ws →
+      CountingAt p x next ws
+  counting_on ws events next e passing early keeps met tallied =
       record {
-        events = (x, u) ∷ c.events;
-        passing = event_more;
-        early = λ y w h. elim (happened_cases x u c.events y w h) [
-          | inl same ↦ subst (λ z. place_of p z ≤ place_of p x) same.0 (omega arith)
-          | inr older ↦ c.early y w older
-        ];
-        before = λ y w l s h. happened_before x u c.events y w (c.before y w l s h);
+        events = events;
+        passing = passing;
+        early = early;
+        before = λ y w l s h. keeps y w (c.before y w l s h);
         here = λ j l h i. elim (cases_order j (k - 1)) [
           | inl same ↦
-              subst (λ w. happened x w ((x, u) ∷ c.events) ≡ true)
-              (sym (ap (λ m. (get_or p.entries m (0, 0)).1) same ∙ at.high)) (happened_now x u c.events)
+              subst (λ w. MetUnder p x w events)
+              (sym (ap (λ m. (get_or p.entries m (0, 0)).1) same ∙ at.high)) met
           | inr (inl earlier) ↦ absurd (newest_last Low p.entries (k - 1) x j (omega arith) earlier i)
-          | inr (inr later) ↦ happened_before x u c.events x _ (c.here j (omega arith) h i)
+          | inr (inr later) ↦ keeps x _ (c.here j (omega arith) h i)
         ];
         tallied = tallied;
       }
+
+  -- x itself is
+  counting_leaf : (ws : List Vertex) (next : ℕ) → next ≡ newest Low p.entries (k - 1) x →
+      Tallied p ((x, u) ∷ c.events) ws → CountingAt p x next ws
+  counting_leaf ws next e tallied =
+      counting_on ws ((x, u) ∷ c.events) next e event_more
+      (λ y w h. elim (happened_cases x u c.events y w h) [
+        | inl same ↦ subst (λ z. place_of p z ≤ place_of p x) same.0 (omega arith)
+        | inr older ↦ c.early y w older
+      ])
+      (under_before p x u c.events) (under_now p x u c.events new) tallied
+
+  -- x is no leaf of row u, as the one met last is in its subtree
+  not_leaf : Ready p vs → is_leaf vs x u ≡ false → MetUnder p x u c.events
+  not_leaf ready out =
+      let first = ready.firsts x new.named new.fits in
+      let r = at.rises in
+      let last = c.tallied.mets u (omega arith) at.fits in
+      let le = ltb-false (vertex vs u).met (vertex vs x).first.0 out in
+      under_last p x u c.events c.passing new c.early (omega arith)
+
+  -- on to the next entry once u is passed as a neighbour of x
+  pub counting_next : (s : Sets) (ws : List Vertex) (next : ℕ) → next ≡ newest Low p.entries (k - 1) x → Ready p vs →
+      TopsAt p (place_of p x - 1) s → EntryPassed x u (meets_at s vs u) vs ws → CountingAt p x next ws
+  counting_next s ws next e ready tops passed =
+      elim (cases_Bool (is_leaf vs x u)) [
+        | inl is ↦
+            counting_leaf ws next e
+            (tallied_more p vs s x u c.events ready c.tallied tops event_more ws (passed.leaf is))
+        | inr out ↦
+            counting_on ws c.events next e c.passing c.early (λ _ _ met. met) (not_leaf ready out)
+            (subst (Tallied p c.events) (sym (passed.other out)) c.tallied)
+      ]
 
 -- at the end of the list all entries of x are counted
 pub counting_end : (p : Pattern) (x : ℕ) (vs : List Vertex) → 1 ≤ x → x ≤ p.order → Sound p.order p.entries →
@@ -241,10 +283,10 @@ counting_end p x vs low high sound c =
       tallied = c.tallied;
     }
   where
-    own : (u : ℕ) → x < u → shares p x u ≡ true → happened x u c.events ≡ true
+    own : (u : ℕ) → x < u → shares p x u ≡ true → MetUnder p x u c.events
     own u l s =
         let (j, fits, first, second) = shares_entry p (λ i h. (sound i h).rises) x u l s in
-        subst (λ w. happened x w c.events ≡ true) second (c.here j (omega arith) fits first)
+        subst (λ w. MetUnder p x w c.events) second (c.here j (omega arith) fits first)
 
 pub head_newest : (n : ℕ) (vs : List Vertex) (es : List Entry) (x : ℕ) → AllLinked Low n vs es → 1 ≤ x → x ≤ n →
     (vertex vs x).head ≡ newest Low (pairs_of es) (length (pairs_of es)) x

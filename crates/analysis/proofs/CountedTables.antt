@@ -3,7 +3,7 @@ use Rattle.std.proofs.Common.{◌≡◌, ℕ, zero, suc, ◌+◌, ◌-◌, ◌�
 use Rattle.std.specs.Int.{int_wrap}
 use Rattle.std.proofs.lemmas.Int.{ints, int_wrap_fits, SFits-int_wrap, int_wrap-add_same}
 use Rattle.std.proofs.lemmas.List.{length-set, length-append}
-use Rattle.std.proofs.lemmas.Bool.{cases_eq, eq-eqb, ne_eqb, cond-true, cond-false}
+use Rattle.std.proofs.lemmas.Bool.{cases_eq, eq-eqb, ne_eqb, cond-true, cond-false, cond_both}
 use Rattle.pattern.specs.Lists.{upto, keep}
 use Rattle.pattern.specs.Forest.{Grows, children}
 use Rattle.pattern.specs.Passes.{one_if}
@@ -12,9 +12,9 @@ use Rattle.pattern.proofs.Lists.{keep_next}
 use Rattle.gather.specs.Kinds.{weight, no_weight, summed}
 use Rattle.gather.specs.Gatherings.{Gathered}
 use Rattle.analysis.specs.declared.records.Vertex.{Vertex}
-use Rattle.analysis.specs.Tables.{vertex, no_vertex, parent_of, with_weight, with_rows, with_last}
+use Rattle.analysis.specs.Tables.{vertex, no_vertex, parent_of, with_weight}
 use Rattle.analysis.specs.Tables.{Has, Only, counts_from, weight_from}
-use Rattle.analysis.specs.Counts.{Same64, weighed, child_taken, ChildrenTaken, lengthened}
+use Rattle.analysis.specs.Counts.{Same64, weighed, child_taken, ChildrenTaken, longer, lengthened}
 use Rattle.analysis.specs.Counts.{EntryCounted}
 use Rattle.analysis.proofs.Changes.{vertex_same, vertex_other, counts_takes, weight_takes}
 use Rattle.analysis.proofs.Changes.{only_none, only_then, only_set, only_more, only_gathered}
@@ -58,6 +58,10 @@ module _ (vs ws : List Vertex) (v : ℕ) (by : ℤ) (from : 1 ≤ v) (to : v ≤
             (sym (cond-false (eqb w v) by (pos 0) (ne_eqb w v ne)))
       ]
 
+cond_field : (field : Vertex → ℕ) (b : Bool) (x y : Vertex) → field (cond b x y) ≡ cond b (field x) (field y)
+cond_field field true x y = refl
+cond_field field false x y = refl
+
 less_one : (a : ℤ) (b : Bool) → a +ℤ cond b (negsuc 0) (pos 0) ≡ a -ℤ cond b (pos 1) (pos 0)
 less_one a true = refl
 less_one a false = refl
@@ -66,15 +70,18 @@ less_one a false = refl
 module _ (vs cs ds ws : List Vertex) (x u q : ℕ) (row : Has vs u) (met : Has vs x) (top : Has vs q)
     (is_c : cs ≡ lengthened vs u x q) (is_d : ds ≡ weighed cs x (pos 1))
     (is_w : ws ≡ weighed ds q (negsuc 0)) where
-  abbrev longer : Vertex
-  longer = with_last (with_rows (vertex vs u) ((vertex vs u).rows + ((vertex vs x).level - (vertex vs q).level))) x
+  abbrev by : ℕ
+  by = (vertex vs x).level - (vertex vs q).level
+
+  abbrev grown : Vertex
+  grown = longer (vertex vs u) by x (vertex vs x).place
 
   to_x : x ≤ length cs
-  to_x = let e = ap (λ t. length t) is_c ∙ length-set vs (u - 1) longer in let h = met.1 in omega arith
+  to_x = let e = ap (λ t. length t) is_c ∙ length-set vs (u - 1) grown in let h = met.1 in omega arith
 
   to_q : q ≤ length ds
   to_q =
-      let e = ap (λ t. length t) is_c ∙ length-set vs (u - 1) longer in
+      let e = ap (λ t. length t) is_c ∙ length-set vs (u - 1) grown in
       let f = ap (λ t. length t) is_d ∙ length-set cs (x - 1) _ in
       let h = top.1 in
       omega arith
@@ -84,51 +91,39 @@ module _ (vs cs ds ws : List Vertex) (x u q : ℕ) (row : Has vs u) (met : Has v
       only_then weight_takes cs ds ws (weighed_only cs ds x (pos 1) met.0 to_x is_d)
       (weighed_only ds ws q (negsuc 0) top.0 to_q is_w)
 
-  at_row : vertex cs u ≡ longer
-  at_row = ap (λ t. vertex t u) is_c ∙ vertex_same vs u longer row.0 row.1
+  at_row : vertex cs u ≡ grown
+  at_row = ap (λ t. vertex t u) is_c ∙ vertex_same vs u grown row.0 row.1
 
   at_other : (v : ℕ) → 1 ≤ v → v ≢ u → vertex cs v ≡ vertex vs v
-  at_other v p ne = ap (λ t. vertex t v) is_c ∙ vertex_other vs u v longer row.0 p ne
+  at_other v p ne = ap (λ t. vertex t v) is_c ∙ vertex_other vs u v grown row.0 p ne
 
   pub entry_only : Only counts_from vs ws
   entry_only =
-      only_then counts_takes vs cs ws (only_set counts_takes vs (u - 1) longer cs refl is_c)
+      only_then counts_takes vs cs ws (only_set counts_takes vs (u - 1) grown cs refl is_c)
       (only_more weight_from counts_from (λ _ _. refl) cs ws heavier_only)
 
-  entry_rows : (v : ℕ) → 1 ≤ v →
-      (vertex ws v).rows ≡
-      cond (eqb u v) ((vertex vs v).rows + ((vertex vs x).level - (vertex vs q).level)) (vertex vs v).rows
-  entry_rows v p =
-      ap (λ y. y.rows) (heavier_only v) ∙
+  -- the row is longer, and all else as it was
+  at_each : (v : ℕ) → 1 ≤ v →
+      vertex cs v ≡ cond (eqb u v) (longer (vertex vs v) by x (vertex vs x).place) (vertex vs v)
+  at_each v p =
       elim (cases_eq v u) [
         | inl i ↦
-            ap (λ y. (vertex cs y).rows) i ∙ ap (λ y. y.rows) at_row
-            ∙ ap (λ y. (vertex vs y).rows + ((vertex vs x).level - (vertex vs q).level)) (sym i)
+            ap (vertex cs) i ∙ at_row ∙ ap (λ y. longer (vertex vs y) by x (vertex vs x).place) (sym i)
             ∙ sym (cond-true (eqb u v) _ _ (eq-eqb u v (sym i)))
-        | inr ne ↦
-            ap (λ y. y.rows) (at_other v p ne) ∙ sym (cond-false (eqb u v) _ _ (ne_eqb u v (λ i. ne (sym i))))
+        | inr ne ↦ at_other v p ne ∙ sym (cond-false (eqb u v) _ _ (ne_eqb u v (λ i. ne (sym i))))
       ]
 
-  entry_lasts : (v : ℕ) → 1 ≤ v → (vertex ws v).last ≡ cond (eqb u v) x (vertex vs v).last
-  entry_lasts v p =
-      ap (λ y. y.last) (heavier_only v) ∙
-      elim (cases_eq v u) [
-        | inl i ↦
-            ap (λ y. (vertex cs y).last) i ∙ ap (λ y. y.last) at_row
-            ∙ sym (cond-true (eqb u v) x (vertex vs v).last (eq-eqb u v (sym i)))
-        | inr ne ↦
-            ap (λ y. y.last) (at_other v p ne)
-            ∙ sym (cond-false (eqb u v) x (vertex vs v).last (ne_eqb u v (λ i. ne (sym i))))
-      ]
+  entry_field : (field : Vertex → ℕ) → ((y z : Vertex) → field (weight_from y z) ≡ field y) → (v : ℕ) → 1 ≤ v →
+      field (vertex ws v)
+      ≡ cond (eqb u v) (field (longer (vertex vs v) by x (vertex vs x).place)) (field (vertex vs v))
+  entry_field field stays v p =
+      ap field (heavier_only v) ∙ stays (vertex cs v) (vertex ws v) ∙ ap field (at_each v p)
+      ∙ cond_field field (eqb u v) _ _
 
   same_weight : (v : ℕ) → 1 ≤ v → (vertex cs v).weight.0 ≡ (vertex vs v).weight.0
   same_weight v p =
-      elim (cases_eq v u) [
-        | inl i ↦
-            ap (λ y. (vertex cs y).weight.0) i ∙ ap (λ y. y.weight.0) at_row
-            ∙ ap (λ y. (vertex vs y).weight.0) (sym i)
-        | inr ne ↦ ap (λ y. y.weight.0) (at_other v p ne)
-      ]
+      ap (λ y. y.weight.0) (at_each v p)
+      ∙ cond_both (eqb u v) _ _ (λ (y : Vertex). y.weight.0 ≡ (vertex vs v).weight.0) (λ _. refl) (λ _. refl)
 
   entry_weights : (v : ℕ) → 1 ≤ v →
       Same64 (vertex ws v).weight.0 ((vertex vs v).weight.0 +ℤ one_if v x -ℤ one_if v q)
@@ -141,7 +136,12 @@ module _ (vs cs ds ws : List Vertex) (x u q : ℕ) (row : Has vs u) (met : Has v
       ∙ ap (int_wrap w64) (less_one ((vertex vs v).weight.0 +ℤ one_if v x) (eqb v q))
 
   pub entry_counted : EntryCounted x u q vs ws
-  entry_counted = record { rows = entry_rows; weights = entry_weights; lasts = entry_lasts }
+  entry_counted = record {
+    rows = entry_field (λ y. y.rows) (λ _ _. refl);
+    weights = entry_weights;
+    lasts = entry_field (λ y. y.last) (λ _ _. refl);
+    mets = entry_field (λ y. y.met) (λ _ _. refl);
+  }
 
 -- the children so far, and one more
 children_next : (k : ℕ) (up : ℕ → ℕ) (w : ℕ) →

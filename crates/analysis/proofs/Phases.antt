@@ -49,7 +49,14 @@ settled fs gs begun grown ordered listed long wide same tree order a b =
 
 -- then all is ready to be counted
 pub ready : (p : Pattern) (vs : List Vertex) → Settled p vs → Ready p vs
-ready p vs s = record { parents = s.tree.parents; levels = s.order.levels; walk = s.order.walk }
+ready p vs s =
+    record {
+      parents = s.tree.parents;
+      levels = s.order.levels;
+      places = s.order.places;
+      firsts = s.order.firsts;
+      walk = s.order.walk;
+    }
 
 -- and once it is, every question is answered
 pub answered : (p : Pattern) (vs ws : List Vertex) →

@@ -25,6 +25,7 @@ no_vertex =
       weight = weight (pos 0);
       head = 0;
       last = 0;
+      met = 0;
       at = 0;
     }
 
@@ -95,6 +96,9 @@ with_head x y = record x { head = y }
 abbrev pub with_last : Vertex → ℕ → Vertex
 with_last x y = record x { last = y }
 
+abbrev pub with_met : Vertex → ℕ → Vertex
+with_met x y = record x { met = y }
+
 abbrev pub with_at : Vertex → ℕ → Vertex
 with_at x y = record x { at = y }
 
@@ -128,8 +132,8 @@ abbrev pub deepest_from : Vertex → Vertex → Vertex
 deepest_from x y = with_deepest x y.deepest
 
 abbrev pub counts_from : Vertex → Vertex → Vertex
-counts_from x y = with_last (with_weight (with_rows x y.rows) y.weight) y.last
+counts_from x y = with_met (with_last (with_weight (with_rows x y.rows) y.weight) y.last) y.met
 
--- x, with all but the parent, the head and the row count of y
+-- x, with all but the parent, the head, the row count and the place met last of y
 abbrev pub order_from : Vertex → Vertex → Vertex
-order_from x y = with_rows (with_head (with_parent y x.parent) x.head) x.rows
+order_from x y = with_met (with_rows (with_head (with_parent y x.parent) x.head) x.rows) x.met

@@ -8,7 +8,7 @@ ghost use Rattle.analysis.specs.Growth.{pattern_in, Fresh};
 ghost use Rattle.analysis.specs.Order.{Forest};
 ghost use Rattle.analysis.specs.Counts.{place_in, Prepared, Counted, Counting, Passed, TopsAreRoots, SameTops};
 ghost use Rattle.analysis.specs.Counts.{uncounted, weighed, child_taken, ChildrenTaken};
-ghost use Rattle.analysis.specs.Counts.{Climbs, lengthened, meets_at, EntryCounted, column_of};
+ghost use Rattle.analysis.specs.Counts.{Climbs, lengthened, meets_at, EntryCounted, is_leaf, EntryPassed, column_of};
 
 use crate::records::{Entry, Vertex};
 use gather::gathering::gather;
@@ -25,6 +25,7 @@ fn begin_counts(vertices: &mut [Vertex])
         vertex.rows = 1;
         vertex.weight = Weight(1);
         vertex.last = 0;
+        vertex.met = 0;
     }
 }
 
@@ -69,13 +70,15 @@ fn lengthen_row(u: u32, x: u32, q: u32, vertices: &mut [Vertex])
     ensures { vertices.new ≡ lengthened vertices.old u x q }
 {
     let by = vertices[x as usize - 1].level - vertices[q as usize - 1].level;
+    let place = vertices[x as usize - 1].place;
     let row = &mut vertices[u as usize - 1];
     row.rows += by;
     row.last = x;
+    row.met = place;
 }
 
 // Counts x as the next lower neighbour of u: it meets the part of row u found so far at the last one's top, or at u.
-fn count_entry<S: AncestorSets>(x: u32, u: u32, vertices: &mut [Vertex], sets: &mut S)
+fn count_leaf<S: AncestorSets>(x: u32, u: u32, vertices: &mut [Vertex], sets: &mut S)
     requires met { (1 ≤ x) × (x ≤ (S.meaning sets.old).used) }
     requires row { (1 ≤ u) × (u ≤ (S.meaning sets.old).used) }
     requires room { (S.meaning sets.old).used ≤ length vertices.old }
@@ -89,6 +92,31 @@ fn count_entry<S: AncestorSets>(x: u32, u: u32, vertices: &mut [Vertex], sets: &
     lengthen_row(u, x, q, vertices);
     weigh(x, 1, vertices);
     weigh(q, -1, vertices);
+}
+
+// Whether no lower neighbour of u met before is in the subtree of x. Those that are have places from the first of x on,
+// since vertices are met by place, and the last one met has the greatest place.
+fn is_leaf(x: u32, u: u32, vertices: &[Vertex]) -> bool
+    requires met { Has vertices.now x }
+    requires row { Has vertices.now u }
+    ensures { result ≡ is_leaf vertices.now x u }
+{
+    vertices[u as usize - 1].met < vertices[x as usize - 1].first.0
+}
+
+// Counts x as the next lower neighbour of u if it is a leaf of its row so far: if not, it adds nothing to the row.
+fn count_entry<S: AncestorSets>(x: u32, u: u32, vertices: &mut [Vertex], sets: &mut S)
+    requires met { (1 ≤ x) × (x ≤ (S.meaning sets.old).used) }
+    requires row { (1 ≤ u) × (u ≤ (S.meaning sets.old).used) }
+    requires room { (S.meaning sets.old).used ≤ length vertices.old }
+    requires climbs { Climbs vertices.old u x (meets_at (S.meaning sets.old) vertices.old u) }
+    ensures passed { EntryPassed x u (meets_at (S.meaning sets.old) vertices.old u) vertices.old vertices.new }
+    ensures only { Only counts_from vertices.old vertices.new }
+    ensures tops { SameTops (S.meaning sets.old) (S.meaning sets.new) }
+{
+    if is_leaf(x, u, vertices) {
+        count_leaf(x, u, vertices, sets);
+    }
 }
 
 // Counts x in the rows of its upper neighbours, once the vertices at all earlier places are counted.

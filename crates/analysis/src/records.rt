@@ -41,6 +41,8 @@ pub struct Vertex {
     pub head: u32,
     // While places are given, the place that the next child takes; while counting, the last lower neighbour met, or 0.
     pub last: u32,
+    // While counting, the place of that neighbour, or 0.
+    pub met: u32,
     // The vertex whose place is this record's number: the postorder itself.
     pub at: u32,
 }

@@ -9,13 +9,12 @@ use Rattle.pattern.specs.Elimination.{row_count, parent}
 use Rattle.pattern.specs.Analysis.{place_of, level_of}
 use Rattle.pattern.specs.Fill.{in_subtree}
 use Rattle.pattern.specs.Counts.{unfalling, RowFrom, stops}
-use Rattle.pattern.specs.Passes.{happened, last_met, bend_at, row_so_far, Passing, Passed}
+use Rattle.pattern.specs.Passes.{happened, last_met, MetUnder, bend_at, row_so_far, Passing, Passed}
 use Rattle.pattern.proofs.Tests.{Vertex, same_test}
 use Rattle.pattern.proofs.Lists.{occurs_append, in_upto}
 use Rattle.pattern.proofs.Sums.{sum_plus}
 use Rattle.pattern.proofs.Tallies.{bit, sum_same, bits_fit}
-use Rattle.pattern.proofs.Lines.{under_self, under_trans}
-use Rattle.pattern.proofs.Joins.{shares_parts}
+use Rattle.pattern.proofs.Lines.{under_trans}
 use Rattle.pattern.proofs.Tree.{parents_grow}
 use Rattle.pattern.proofs.Forest.{under_parts, under_counts, parent_counts}
 use Rattle.pattern.proofs.Places.{block}
@@ -25,7 +24,6 @@ use Rattle.pattern.proofs.Counting.{in_row_test, row_tests, stop-cases, in_list,
 use Rattle.pattern.proofs.Passes.{
   happened_none,
   happened_now,
-  happened_before,
   happened_cases,
   bend_first,
   bend_later,
@@ -35,6 +33,7 @@ use Rattle.pattern.proofs.Passes.{
   passing_older,
   older_placed,
   new_lower,
+  under_before,
   NoneOrNewest,
   last_tells,
   bend_both,
@@ -83,8 +82,7 @@ module _ (p : Pattern) where
       ]
 
   abbrev Reached : ℕ → ℕ → List (ℕ × ℕ) → Type 0
-  Reached u v es =
-      (in_subtree p u v ≡ true) ⊎ ((y : ℕ) × (happened y u es ≡ true) × (in_subtree p y v ≡ true))
+  Reached u v es = (in_subtree p u v ≡ true) ⊎ MetUnder p v u es
 
   reaches_tells : (u v : ℕ) (es : List (ℕ × ℕ)) → reaches u v es ≡ true → Reached u v es
   unfolding reaches
@@ -97,7 +95,7 @@ module _ (p : Pattern) where
         | inr m ↦
             elim (reaches_tells u v es m) [
               | inl t ↦ inl t
-              | inr (y, h, t) ↦ inr (y, happened_before x w es y u h, t)
+              | inr below ↦ inr (under_before p x w es v u below)
             ]
       ]
 
@@ -215,11 +213,7 @@ module _ (p : Pattern) where
   row_from_met es q u = record {
     lower = λ x o. q.passing.lower x u (sym (met_occurs x u es) ∙ o);
     placed = met_placed u es q.passing;
-    covers = λ y less s. (
-      y,
-      met_occurs y u es ∙ q.covers y u less s,
-      under_self p.order (parent p) (parents_grow p) y (shares_parts p y u s).0.left,
-    );
+    covers = λ y less s. let (x, h, lies) = q.covers y u less s in (x, met_occurs x u es ∙ h, lies);
   }
 
   -- at the end row u reaches itself and what is above u

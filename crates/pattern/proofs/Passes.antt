@@ -5,13 +5,15 @@ use Rattle.std.proofs.lemmas.Bool.Decides.{nat_tests}
 use Rattle.pattern.specs.Patterns.{Pattern, shares}
 use Rattle.pattern.specs.Elimination.{parent}
 use Rattle.pattern.specs.Forest.{children}
-use Rattle.pattern.specs.Analysis.{place_of, level_of}
+use Rattle.pattern.specs.Analysis.{place_of, first_place_of, level_of}
 use Rattle.pattern.specs.Fill.{in_subtree}
 use Rattle.pattern.specs.Counts.{meet_of}
 use Rattle.pattern.specs.Tops.{top_after}
 use Rattle.pattern.specs.Passes.{
   happened,
   last_met,
+  last_place,
+  MetUnder,
   bend_at,
   row_so_far,
   one_if,
@@ -26,7 +28,7 @@ use Rattle.pattern.proofs.Joins.{shares_parts}
 use Rattle.pattern.proofs.Paths.{edge}
 use Rattle.pattern.proofs.Tree.{parents_grow, way_lies}
 use Rattle.pattern.proofs.Forest.{under_parts, under_level_le}
-use Rattle.pattern.proofs.Places.{place_bounds, place_apart}
+use Rattle.pattern.proofs.Places.{place_bounds, place_apart, interval}
 use Rattle.pattern.proofs.Meets.{meet_of_both, meet_has_both}
 use Rattle.pattern.proofs.Tops.{top_meets}
 
@@ -68,6 +70,20 @@ unfolding last_met
 last_more x u es w = refl
 
 module _ (p : Pattern) where
+  pub last_place_none : (w : ℕ) → last_place p w [] ≡ 0
+  unfolding last_place
+  last_place_none w = cond-true _ _ _ (eq-eqb (last_met w []) 0 (last_none w))
+
+  pub last_place_more : (x u : ℕ) (es : List (ℕ × ℕ)) → 1 ≤ x → (w : ℕ) →
+      last_place p w ((x, u) ∷ es) ≡ cond (eqb u w) (place_of p x) (last_place p w es)
+  unfolding last_place
+  last_place_more x u es some w = let m = last_more x u es w in grind (arith, nat_tests)
+
+  place_met : (u : ℕ) (es : List (ℕ × ℕ)) → 1 ≤ last_place p u es →
+      (1 ≤ last_met u es) × (last_place p u es ≡ place_of p (last_met u es))
+  unfolding last_place
+  place_met u es some = grind (arith, nat_tests)
+
   -- the first of row u joins it at u
   pub bend_first : (x u : ℕ) (es : List (ℕ × ℕ)) → last_met u es ≡ 0 → bend_at p x u es ≡ u
   unfolding bend_at
@@ -288,32 +304,52 @@ module _ (p : Pattern) where
             (last_met u es) last.lower.from.fits last.lower.lies le ∙ sym (bend_later x u es l),
       )
 
-  -- every lower neighbour up to place k is met: at first, one place more, at the end
+  -- what was met stays so
+  pub under_before : (x u : ℕ) (es : List (ℕ × ℕ)) (y w : ℕ) → MetUnder p y w es → MetUnder p y w ((x, u) ∷ es)
+  under_before x u es y w (z, met, lies) = (z, happened_before x u es z w met, lies)
+
+  -- x is met, and lies in its own subtree
+  pub under_now : (x u : ℕ) (es : List (ℕ × ℕ)) → Vertex p.order x → MetUnder p x u ((x, u) ∷ es)
+  under_now x u es h = (x, happened_now x u es, under_self p.order (parent p) (parents_grow p) x h)
+
+  -- what was met last at a place from the first of x to that of x lies in the subtree of x
+  pub under_last : (x u : ℕ) (es : List (ℕ × ℕ)) → Passing p es → Vertex p.order x →
+      ((y w : ℕ) → happened y w es ≡ true → place_of p y ≤ place_of p x) →
+      first_place_of p x ≤ last_place p u es → MetUnder p x u es
+  under_last x u es q h early from =
+      let i = interval p.order (parent p) (parents_grow p) x h in
+      let b = i.begins in
+      let (some, at) = place_met u es (omega arith) in
+      let last = last_newest u es q some in
+      let v = last.lower.from in
+      (last_met u es, last.met, (i.exactly (last_met u es) v.named v.fits).1 (omega arith, early _ u last.met))
+
+  -- every lower neighbour up to place k has one met in its subtree: at first, one place more, at the end
   abbrev pub MetTo : ℕ → List (ℕ × ℕ) → Type 0
-  MetTo k es = (x u : ℕ) → x < u → shares p x u ≡ true → place_of p x ≤ k → happened x u es ≡ true
+  MetTo k es = (y u : ℕ) → y < u → shares p y u ≡ true → place_of p y ≤ k → MetUnder p y u es
 
   pub met_to_none : MetTo 0 []
-  met_to_none x u low s le =
-      let b = place_bounds p.order (parent p) (parents_grow p) x (shares_parts p x u s).0.left in
+  met_to_none y u low s le =
+      let b = place_bounds p.order (parent p) (parents_grow p) y (shares_parts p y u s).0.left in
       absurd (omega arith)
 
   pub met_to_next : (k z : ℕ) (es : List (ℕ × ℕ)) → 1 ≤ z → z ≤ p.order → place_of p z ≡ suc k → MetTo k es →
-      ((u : ℕ) → z < u → shares p z u ≡ true → happened z u es ≡ true) → MetTo (suc k) es
-  met_to_next k z es named fits at before own x u low s le =
-      elim (cases_lt k (place_of p x)) [
+      ((u : ℕ) → z < u → shares p z u ≡ true → MetUnder p z u es) → MetTo (suc k) es
+  met_to_next k z es named fits at before own y u low s le =
+      elim (cases_lt k (place_of p y)) [
         | inl late ↦
-            let h = (shares_parts p x u s).0.left in
-            let e = place_apart p.order (parent p) (parents_grow p) x z h (record { named = named; fits = fits })
+            let h = (shares_parts p y u s).0.left in
+            let e = place_apart p.order (parent p) (parents_grow p) y z h (record { named = named; fits = fits })
             (omega arith) in
-            subst (λ y. happened y u es ≡ true) (sym e)
+            subst (λ y. MetUnder p y u es) (sym e)
             (own u (omega arith) (subst (λ y. shares p y u ≡ true) e s))
-        | inr early ↦ before x u low s early
+        | inr early ↦ before y u low s early
       ]
 
   pub met_to_end : (es : List (ℕ × ℕ)) → Passing p es → MetTo p.order es → Passed p es
   met_to_end es q all = record {
     passing = q;
-    covers = λ x u low s.
-        all x u low s
-        (place_bounds p.order (parent p) (parents_grow p) x (shares_parts p x u s).0.left).1;
+    covers = λ y u low s.
+        all y u low s
+        (place_bounds p.order (parent p) (parents_grow p) y (shares_parts p y u s).0.left).1;
   }

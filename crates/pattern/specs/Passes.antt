@@ -7,6 +7,7 @@ use Rattle.pattern.specs.Patterns.{Pattern, shares}
 use Rattle.pattern.specs.Elimination.{parent}
 use Rattle.pattern.specs.Forest.{children}
 use Rattle.pattern.specs.Analysis.{place_of, level_of}
+use Rattle.pattern.specs.Fill.{in_subtree}
 use Rattle.pattern.specs.Counts.{meet_of}
 
 -- whether x was met as a lower neighbour of u
@@ -17,6 +18,14 @@ happened x u es = list_any (λ e. e.0 == x && e.1 == u) es
 unfoldable pub last_met : ℕ → List (ℕ × ℕ) → ℕ
 last_met u [] = 0
 last_met u (e ∷ es) = cond (e.1 == u) e.0 (last_met u es)
+
+-- its place, or 0
+unfoldable pub last_place : Pattern → ℕ → List (ℕ × ℕ) → ℕ
+last_place p u es = cond (last_met u es == 0) 0 (place_of p (last_met u es))
+
+-- some vertex of the subtree of y was met as a lower neighbour of u
+abbrev pub MetUnder : Pattern → ℕ → ℕ → List (ℕ × ℕ) → Type 0
+MetUnder p y u es = (x : ℕ) × (happened x u es ≡ true) × (in_subtree p x y ≡ true)
 
 -- where the path from x joins what row u has so far: at the meeting vertex of x and the one met last, at first at u
 unfoldable pub bend_at : Pattern → ℕ → ℕ → List (ℕ × ℕ) → ℕ
@@ -50,7 +59,7 @@ pub record Passing (p : Pattern) (es : List (ℕ × ℕ)) : Type 0 where
   pub lower : (x u : ℕ) → happened x u es ≡ true → (x < u) × (shares p x u ≡ true)
   pub placed : by_place p es ≡ true
 
--- the events of a whole pass: every lower neighbour is met
+-- the events of a whole pass: every lower neighbour is met, or another one in its subtree is
 pub record Passed (p : Pattern) (es : List (ℕ × ℕ)) : Type 0 where
   pub passing : Passing p es
-  pub covers : (x u : ℕ) → x < u → shares p x u ≡ true → happened x u es ≡ true
+  pub covers : (y u : ℕ) → y < u → shares p y u ≡ true → MetUnder p y u es

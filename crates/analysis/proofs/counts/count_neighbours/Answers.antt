@@ -5,7 +5,7 @@ use Rattle.analysis.specs.Counts.{Ready, TopsAt, place_in}
 use Rattle.analysis.proofs.Changes.{at_equal, counts_takes, only_none, only_then}
 use Rattle.analysis.proofs.Chains.{Met, Taken, met_head, links_fall, met_link, link_newest, upper_at, step_taken}
 use Rattle.analysis.proofs.CountedEvents.{AtEntry, CountingAt, head_newest, counting_head, counting_next, counting_end}
-use Rattle.analysis.proofs.CountedEvents.{ready_only, at_entry, event_more, climbs, tallied_more, tops_same}
+use Rattle.analysis.proofs.CountedEvents.{ready_only, at_entry, event_more, climbs, tops_same}
 use Rattle.analysis.proofs.counts.count_neighbours.Given as given
 use Rattle.analysis.proofs.counts.count_neighbours.Goals as goal
 use Rattle.analysis.proofs.counts.count_neighbours.Goals.{In-Some}
@@ -73,10 +73,8 @@ loop-entry-preserved g c =
     record {
       same = c.in-Some.ensures.steps.entries ∙ i.same;
       met = met_link _ _ _ _ _ _ _ _ lists i.met (taken g some);
-      counting = counting_next _ _ _ _ _ (at g some) i.counting _ _
-          (link_newest _ _ _ _ _ _ _ _ lists i.met (taken g some))
-          (tallied_more _ _ _ _ _ _ (tree g some) i.counting.tallied (tops g some)
-          (event_more _ _ _ _ _ (at g some) i.counting) _ after.counted);
+      counting = counting_next _ _ _ _ _ (at g some) i.counting _ _ _
+          (link_newest _ _ _ _ _ _ _ _ lists i.met (taken g some)) (tree g some) (tops g some) after.passed;
       only = only_then counts_takes _ _ _ i.only after.only;
       tops = record {
         size = after.tops.size ∙ i.tops.size;

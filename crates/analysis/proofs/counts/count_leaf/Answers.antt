@@ -4,9 +4,9 @@ use Rattle.analysis.specs.Counts.{Climbs, EntryCounted, meets_at}
 use Rattle.analysis.proofs.Changes.{at_equal}
 use Rattle.analysis.proofs.CountedTables.{entry_only, entry_counted}
 use Rattle.analysis.proofs.CountedEvents.{found_meets, meets_within}
-use Rattle.analysis.proofs.counts.count_entry.Given as given
-use Rattle.analysis.proofs.counts.count_entry.Goals as goal
-use Rattle.analysis.proofs.counts.count_entry.Goals.{After-unwrap_or-q}
+use Rattle.analysis.proofs.counts.count_leaf.Given as given
+use Rattle.analysis.proofs.counts.count_leaf.Goals as goal
+use Rattle.analysis.proofs.counts.count_leaf.Goals.{After-unwrap_or-q}
 
 -- what is found, or else u, is where x meets the row: a vertex in use
 met : (g : given.Over) (c : After-unwrap_or-q g) →
