@@ -261,7 +261,7 @@ fn racks(alloc: Global) -> Result<Vec<Pattern>, AllocError> {
         (2, 5, 4, 2),
         (3, 10, 5, 2),
         (4, 40, 6, 1),
-        (8, 127, 7, 2),
+        (8, 63, 7, 2),
     ] {
         for tied in [false, true] {
             let rack = Rack {
@@ -392,7 +392,7 @@ fn arrows(alloc: Global) -> Result<Vec<Pattern>, AllocError> {
             patterns.push(arrow(alloc, order, width)?)?;
         }
     }
-    for (order, width) in [(100, 4), (500, 5), (LARGE, 2)] {
+    for (order, width) in [(100, 4), (500, 5), (8192, 3)] {
         patterns.push(arrow(alloc, order, width)?)?;
     }
     Ok(patterns)
@@ -527,7 +527,7 @@ fn bands(alloc: Global, generator: &mut Generator) -> Result<Vec<Pattern>, Alloc
             }
         }
     }
-    for (order, width, sixteenths) in [(90, 6, 5), (300, 8, 16), (1000, 20, 4), (LARGE, 3, 14)] {
+    for (order, width, sixteenths) in [(90, 6, 5), (300, 8, 16), (1000, 20, 4), (8192, 3, 14)] {
         patterns.push(band(alloc, order, width, sixteenths, generator)?)?;
     }
     Ok(patterns)
@@ -559,7 +559,7 @@ fn reversed(alloc: Global, generator: &mut Generator) -> Result<Vec<Pattern>, Al
     }
     let store = Rack {
         aisles: 8,
-        bays: 127,
+        bays: 31,
         levels: 7,
         sides: 2,
         tied: true,
