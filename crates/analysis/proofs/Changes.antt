@@ -9,8 +9,8 @@ use Rattle.pattern.specs.Forest.{Grows}
 use Rattle.gather.specs.Gatherings.{Gathered}
 use Rattle.analysis.specs.declared.records.Vertex.{Vertex}
 use Rattle.analysis.specs.Tables.{vertex, no_vertex, Only, head_from, parent_from, level_from}
-use Rattle.analysis.specs.Tables.{parent_of, weight_from, place_from, at_from, first_from, deepest_from, order_from}
-use Rattle.analysis.specs.Tables.{counts_from}
+use Rattle.analysis.specs.Tables.{parent_of, weight_from, tree_from, place_from, at_from, walk_from, reach_from}
+use Rattle.analysis.specs.Tables.{order_from, counts_from}
 
 -- what holds at a number holds at an equal one
 pub at_equal : {A : Type 0} (P : ℕ → A → Type 0) {a : A} {s t : ℕ} → P s a → s ≡ t → P t a
@@ -60,11 +60,14 @@ place_takes = record { same = λ _. refl; latest = λ _ _ _. refl }
 pub at_takes : Takes at_from
 at_takes = record { same = λ _. refl; latest = λ _ _ _. refl }
 
-pub first_takes : Takes first_from
-first_takes = record { same = λ _. refl; latest = λ _ _ _. refl }
+pub tree_takes : Takes tree_from
+tree_takes = record { same = λ _. refl; latest = λ _ _ _. refl }
 
-pub deepest_takes : Takes deepest_from
-deepest_takes = record { same = λ _. refl; latest = λ _ _ _. refl }
+pub walk_takes : Takes walk_from
+walk_takes = record { same = λ _. refl; latest = λ _ _ _. refl }
+
+pub reach_takes : Takes reach_from
+reach_takes = record { same = λ _. refl; latest = λ _ _ _. refl }
 
 pub order_takes : Takes order_from
 order_takes = record { same = λ _. refl; latest = λ _ _ _. refl }

@@ -1,9 +1,8 @@
 -- What the gatherings leave in the vertices' fields: the sizes of the subtrees, first places and greatest levels.
-use Rattle.std.proofs.Common.{◌≡◌, ℕ, ◌+◌, ◌-◌, ◌≤◌, max, true, List, [], ◌∷◌, length, get_or, ℤ, pos, ◌+ℤ◌, sym, refl, ap, ◌∙◌, subst, ap₂, inl, inr, arith, w64, SFits}
+use Rattle.std.proofs.Common.{◌≡◌, ℕ, ◌≤◌, max, true, List, [], ◌∷◌, length, ℤ, pos, ◌+ℤ◌, refl, ap, ◌∙◌, ap₂, arith, w64, SFits}
 use Rattle.std.specs.Int.{int_wrap}
-use Rattle.std.proofs.Math.ListN.{get_or-eq_default}
 use Rattle.std.proofs.lemmas.Int.{int_wrap_fits}
-use Rattle.std.proofs.lemmas.Bool.{cases_lt, eq-eqb, or_left, or_right}
+use Rattle.std.proofs.lemmas.Bool.{eq-eqb, or_left, or_right}
 use Rattle.pattern.specs.Lists.{occurs, least, greatest}
 use Rattle.pattern.specs.Forest.{Grows, subtree, level, place, first_place}
 use Rattle.pattern.specs.Walks.{size}
@@ -14,18 +13,17 @@ use Rattle.pattern.proofs.Tallies.{least_le, least_ge}
 use Rattle.pattern.proofs.Lines.{under_self}
 use Rattle.pattern.proofs.Forest.{size_bound}
 use Rattle.pattern.proofs.Places.{place_bounds}
-use Rattle.gather.specs.declared.kinds.Weight.{Weight}
 use Rattle.gather.specs.declared.kinds.LeastPlace.{LeastPlace}
 use Rattle.gather.specs.declared.kinds.GreatestLevel.{GreatestLevel}
-use Rattle.gather.specs.Kinds.{weight, no_weight, summed, least_place, no_place, lesser}
-use Rattle.gather.specs.Kinds.{greatest_level, no_level, greater}
-use Rattle.gather.specs.Gatherings.{GatheredFrom}
-use Rattle.gather.proofs.Totals.{weights_over, places_over, levels_over}
+use Rattle.gather.specs.Joinings.{joined_both}
+use Rattle.gather.specs.Kinds.{no_weight, summed, no_place, lesser, no_level, greater}
+use Rattle.gather.specs.Gatherings.{Gathered}
+use Rattle.gather.proofs.Totals.{weights_over, places_over, levels_over, both_over}
 use Rattle.analysis.specs.declared.records.Vertex.{Vertex}
-use Rattle.analysis.specs.Tables.{vertex, no_vertex, parent_of, with_weight, with_first, with_deepest}
-use Rattle.analysis.specs.Tables.{weight_from, first_from, deepest_from, Only}
-use Rattle.analysis.specs.Order.{Forest, greatest_level_under, Levelled, Sized, Placed, FirstPlaced, Sounded}
-use Rattle.analysis.proofs.Changes.{Takes, weight_takes, first_takes, deepest_takes}
+use Rattle.analysis.specs.Tables.{vertex, no_vertex, parent_of, with_weight, with_reach}
+use Rattle.analysis.specs.Tables.{weight_from, reach_from, Only}
+use Rattle.analysis.specs.Order.{Forest, AllWeighOne, greatest_level_under, Sized, ReachBegun, FirstPlaced, Sounded}
+use Rattle.analysis.proofs.Changes.{weight_takes, reach_takes, only_gathered}
 use Rattle.analysis.proofs.Passes.{holds_after}
 
 sum_ones : (f : ℕ → ℤ) (xs : List ℕ) → ((x : ℕ) → occurs x xs ≡ true → f x ≡ pos 1) → sum_ℤ f xs ≡ pos (length xs)
@@ -64,90 +62,57 @@ module _ (n : ℕ) (up : ℕ → ℕ) where
   unfolding subtree
   on_subtree grows v h = keep_has n _ v (under_self n up grows v h) h
 
--- What is gathered into one field of the vertices' records, and nothing else, changes that field only.
-module _ {J : Type 0} {gives : Vertex → J → Type 0} {neutral : J} {join : J → J → J} {holding : Vertex → J → Vertex}
-    {mix : Vertex → Vertex → Vertex} (takes : Takes mix) (sets : (x : Vertex) (j : J) → holding x j ≡ mix x (holding x j))
-    {vs ws : List Vertex} (long : length ws ≡ length vs)
-    (g : GatheredFrom gives neutral join no_vertex (λ x. x.parent) holding (length vs) vs ws) where
-  gathered_only : Only mix vs ws
-  gathered_only v =
-      elim (cases_lt (v - 1) (length vs)) [
-        | inl inside ↦
-            let index : v - 1 + 1 - 1 ≡ v - 1 = omega arith in
-            let h = g.vertices (v - 1 + 1) (omega arith) (omega arith) in
-            subst (λ k. get_or ws k no_vertex ≡ mix (get_or vs k no_vertex) (get_or ws k no_vertex)) index
-            (h ∙ sets _ _ ∙ ap (mix (vertex vs (v - 1 + 1))) (sym h))
-        | inr past ↦
-            let none = get_or-eq_default vs no_vertex past in
-            let still = get_or-eq_default ws no_vertex {n = v - 1} (omega arith) in
-            still ∙ sym (takes.same no_vertex) ∙ ap₂ mix (sym none) (sym still)
-      ]
-
--- the values that are gathered, as each record gives its own
+-- once they are gathered
 module _ {vs ws : List Vertex} (forest : Forest vs) (long : length ws ≡ length vs) where
-  pub sizes_gathered : {gives : Vertex → Weight → Type 0} →
-      ((x : Vertex) (j : Weight) → gives x j → j ≡ weight (pos 1)) →
-      GatheredFrom gives no_weight summed no_vertex (λ x. x.parent) with_weight (length vs) vs ws →
+  pub sizes_gathered : AllWeighOne vs →
+      Gathered no_weight summed no_vertex (λ x. x.parent) (λ x. x.weight) with_weight (length vs) vs ws →
       Sized (length ws) ws × Only weight_from vs ws
   unfolding size
-  sizes_gathered one g =
+  sizes_gathered ones g =
       let n = length vs in
       let up = parent_of vs in
-      let only = gathered_only weight_takes (λ _ _. refl) long g in (
+      let only = only_gathered _ _ _ _ _ weight_from weight_takes (λ _ _. refl) n vs ws g in (
         holds_after weight_from (λ _ _. refl) _ _ only long (λ x. x.weight.0) (λ n up v. pos (size n up v))
             (λ v p q.
             let b : length (subtree n up v) ≤ n = size_bound n up forest.grows v in
             let few = forest.few in
             let small : SFits w64 (pos (length (subtree n up v))) = record { sfits = omega arith } in
             ap (λ x. x.weight.0) (g.vertices v p q)
-            ∙ ap (λ x. x.0) (weights_over g.first (subtree n up v))
+            ∙ ap (λ x. x.0) (weights_over (λ x. (vertex vs x).weight) (subtree n up v))
             ∙ ap (int_wrap w64)
-            (sum_ones _ (subtree n up v)
-            (λ x o.
-            let k = in_subtree n up v x o in ap (λ j. j.0) (one (vertex vs x) (g.first x) (g.given x k.named k.fits))))
+            (sum_ones _ (subtree n up v) (λ x o. let k = in_subtree n up v x o in ones x k.named k.fits))
             ∙ int_wrap_fits w64 _ small),
         only,
       )
 
-  pub firsts_gathered : {gives : Vertex → LeastPlace → Type 0} →
-      ((x : Vertex) (j : LeastPlace) → gives x j → j ≡ least_place x.place) →
-      GatheredFrom gives no_place lesser no_vertex (λ x. x.parent) with_first (length vs) vs ws →
-      Placed (length vs) vs → FirstPlaced (length ws) ws × Only first_from vs ws
+  pub reach_gathered : ReachBegun (length vs) vs →
+      Gathered (no_place, no_level) (joined_both lesser greater) no_vertex (λ x. x.parent) (λ x. (x.first, x.deepest))
+      with_reach (length vs) vs ws →
+      FirstPlaced (length ws) ws × Sounded (length ws) ws × Only reach_from vs ws
   unfolding first_place
-  firsts_gathered own g placed =
+  reach_gathered begun g =
       let n = length vs in
       let up = parent_of vs in
-      let only = gathered_only first_takes (λ _ _. refl) long g in (
-        holds_after first_from (λ _ _. refl) _ _ only long (λ x. x.first.0) first_place
+      let only = only_gathered _ _ _ _ _ reach_from reach_takes (λ _ _. refl) n vs ws g in
+      let own : ℕ → LeastPlace × GreatestLevel = λ x. ((vertex vs x).first, (vertex vs x).deepest) in
+      let both = λ (v : ℕ). both_over no_place no_level lesser greater own (subtree n up v) in (
+        holds_after reach_from (λ _ _. refl) _ _ only long (λ x. x.first.0) first_place
             (λ v p q.
             let h : math.Vertex n v = record { named = p; fits = q } in
             let b = (place_bounds n up forest.grows v h).1 in
             let few = forest.few in
             ap (λ x. x.first.0) (g.vertices v p q)
-            ∙ ap (λ x. x.0) (places_over g.first (subtree n up v))
+            ∙ ap (λ j. j.0.0) (both v)
+            ∙ ap (λ j. j.0) (places_over (λ x. (vertex vs x).first) (subtree n up v))
             ∙ least_agrees 4294967295 n _ (place n up) (subtree n up v)
-            (λ x o.
-            let k = in_subtree n up v x o in
-            ap (λ j. j.0) (own (vertex vs x) (g.first x) (g.given x k.named k.fits)) ∙ placed x k.named k.fits)
+            (λ x o. let k = in_subtree n up v x o in begun.places x k.named k.fits)
             v (on_subtree n up forest.grows v h) (omega arith) b),
-        only,
-      )
-
-  pub depths_gathered : {gives : Vertex → GreatestLevel → Type 0} →
-      ((x : Vertex) (j : GreatestLevel) → gives x j → j ≡ greatest_level x.level) →
-      GatheredFrom gives no_level greater no_vertex (λ x. x.parent) with_deepest (length vs) vs ws →
-      Levelled (length vs) vs → Sounded (length ws) ws × Only deepest_from vs ws
-  depths_gathered own g levelled =
-      let n = length vs in
-      let up = parent_of vs in
-      let only = gathered_only deepest_takes (λ _ _. refl) long g in (
-        holds_after deepest_from (λ _ _. refl) _ _ only long (λ x. x.deepest.0) greatest_level_under
+        holds_after reach_from (λ _ _. refl) _ _ only long (λ x. x.deepest.0) greatest_level_under
             (λ v p q.
             ap (λ x. x.deepest.0) (g.vertices v p q)
-            ∙ ap (λ x. x.0) (levels_over g.first (subtree n up v))
+            ∙ ap (λ j. j.1.0) (both v)
+            ∙ ap (λ j. j.0) (levels_over (λ x. (vertex vs x).deepest) (subtree n up v))
             ∙ greatest_agrees _ (level n up) (subtree n up v)
-            (λ x o.
-            let k = in_subtree n up v x o in
-            ap (λ j. j.0) (own (vertex vs x) (g.first x) (g.given x k.named k.fits)) ∙ levelled x k.named k.fits)),
+            (λ x o. let k = in_subtree n up v x o in begun.levels x k.named k.fits)),
         only,
       )

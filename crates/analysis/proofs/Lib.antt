@@ -3,6 +3,7 @@ pub mod Chains
 pub mod Passes
 pub mod Gathers
 pub mod Orders
+pub mod Descents
 pub mod Tops
 pub mod SettledTops
 mod Phases

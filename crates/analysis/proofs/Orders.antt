@@ -1,4 +1,4 @@
--- The steps of the places, from n down to 1, and of the walk, with what they come to.
+-- The steps of the walk down, from n to 1: a level, a place and a note of it, with what they come to.
 use Rattle.std.proofs.Common.{◌≡◌, ℕ, zero, suc, ◌+◌, ◌-◌, ◌<◌, ◌≤◌, cond, eqb, ltb, ◌≢◌, List, length, set, sym, refl, ap, ◌∙◌, subst, inl, inr, arith}
 use Rattle.std.proofs.lemmas.Bool.{cases_eq, cond-true, cond-false, eq-eqb, ne_eqb, le-ltb}
 use Rattle.std.proofs.lemmas.List.{length-set}
@@ -10,7 +10,7 @@ use Rattle.pattern.specs.Walks.{size, at_place}
 use Rattle.pattern.proofs.Tests as math
 use Rattle.pattern.proofs.Lists.{keep_none}
 use Rattle.pattern.proofs.Walk.{above}
-use Rattle.pattern.proofs.Forest.{in_children}
+use Rattle.pattern.proofs.Forest.{in_children, level_root, level_child}
 use Rattle.pattern.proofs.Places.{
   spot,
   spot_vertex,
@@ -34,11 +34,12 @@ use Rattle.pattern.proofs.Agree.{
   height_agrees,
 }
 use Rattle.analysis.specs.declared.records.Vertex.{Vertex}
-use Rattle.analysis.specs.Tables.{vertex, parent_of, with_place, with_last, with_at}
-use Rattle.analysis.specs.Tables.{place_from, at_from, Only}
-use Rattle.analysis.specs.Order.{size_in, next_place, placed_at, freed_to, taken, free_after, noted}
-use Rattle.analysis.specs.Order.{Ordered, OrderedAs}
-use Rattle.analysis.proofs.Changes.{vertex_same, vertex_other, place_takes, at_takes, only_set, only_then}
+use Rattle.analysis.specs.Tables.{vertex, parent_of, with_last, with_at}
+use Rattle.analysis.specs.Tables.{level_from, place_from, at_from, Only}
+use Rattle.analysis.specs.Order.{level_below, on_level, levelled, size_in, next_place, at_its_place, placed_at}
+use Rattle.analysis.specs.Order.{freed_to, taken, free_after, noted, Ordered, OrderedAs}
+use Rattle.analysis.proofs.Changes.{vertex_same, vertex_other, level_takes, place_takes, at_takes, only_set, only_then}
+use Rattle.analysis.proofs.Passes.{Past, past_still, past_more}
 
 -- One place is taken: what the table then holds.
 module _ (vs : List Vertex) (free x : ℕ) (from : 1 ≤ x) (to : x ≤ length vs) (apart : parent_of vs x ≢ x)
@@ -47,7 +48,7 @@ module _ (vs : List Vertex) (free x : ℕ) (from : 1 ≤ x) (to : x ≤ length v
   mine = next_place vs free (parent_of vs x)
 
   abbrev own : Vertex
-  own = with_last (with_place (vertex vs x) mine) (mine - 1)
+  own = at_its_place (vertex vs x) mine
 
   abbrev left : ℕ
   left = mine - size_in (vertex vs x)
@@ -98,15 +99,17 @@ module _ (vs : List Vertex) (free x : ℕ) (from : 1 ≤ x) (to : x ≤ length v
       ∙ vertex_same (placed_at vs x mine) (parent_of vs x) _ some (omega arith)
       ∙ ap (λ y. with_last y left) (vertex_other vs x (parent_of vs x) own from some apart)
 
-  -- the other places stay
-  pub taken_place : (w : ℕ) → 1 ≤ w → w ≢ x → (vertex (taken vs free x) w).place ≡ (vertex vs w).place
-  taken_place w p ne =
+  -- in the other records all stays but the next place
+  pub taken_field : {A : Type 0} (field : Vertex → A) → ((y : Vertex) (l : ℕ) → field (with_last y l) ≡ field y) →
+      (w : ℕ) → 1 ≤ w → w ≢ x → field (vertex (taken vs free x) w) ≡ field (vertex vs w)
+  taken_field field stays w p ne =
       elim (cases_eq w (parent_of vs x)) [
         | inl i ↦
-            ap (λ y. (vertex (taken vs free x) y).place) i
-            ∙ ap (λ y. y.place) (taken_parent (omega arith))
-            ∙ ap (λ y. (vertex vs y).place) (sym i)
-        | inr off ↦ ap (λ y. y.place) (taken_other w p ne off)
+            ap (λ y. field (vertex (taken vs free x) y)) i
+            ∙ ap field (taken_parent (omega arith))
+            ∙ stays _ _
+            ∙ ap (λ y. field (vertex vs y)) (sym i)
+        | inr off ↦ ap field (taken_other w p ne off)
       ]
 
   -- of the next places, just the parent's falls, by the size
@@ -132,24 +135,64 @@ module _ (vs : List Vertex) (free x : ℕ) (from : 1 ≤ x) (to : x ≤ length v
             ]
       ]
 
--- The vertices past c have their places, and each of them, and the roots, the next place for a child up to c: the
--- places after it are those of the children past c.
+-- The vertices past c have their levels, with which the greatest in their subtrees begin.
+pub record LevelsPast (n : ℕ) (up : ℕ → ℕ) (c : ℕ) (vs : List Vertex) : Type 0 where
+  pub levels : Past n c (λ x. x.level) (level n up) vs
+  pub depths : Past n c (λ x. x.deepest.0) (level n up) vs
+
+-- The vertices past c have their places, with which the least in their subtrees begin. Each of them, and the roots, has
+-- the next place for a child up to c: the places after it are those of the children past c.
 pub record PlacesPast (n : ℕ) (up : ℕ → ℕ) (c free : ℕ) (vs : List Vertex) : Type 0 where
-  pub places : (w : ℕ) → c < w → w ≤ n → (vertex vs w).place ≡ place n up w
+  pub places : Past n c (λ x. x.place) (place n up) vs
+  pub firsts : Past n c (λ x. x.first.0) (place n up) vs
   pub next : (w : ℕ) → (1 ≤ w → c < w) → w ≤ n →
       next_place vs free w + sum (size n up) (above n up w c) + 1 ≡ spot n up w
 
+-- the vertices past c are noted at their places
+abbrev pub NotedPast : ℕ → (ℕ → ℕ) → ℕ → List Vertex → Type 0
+NotedPast n up c vs = (w : ℕ) → c < w → w ≤ n → (vertex vs (place n up w)).at ≡ w
+
+-- a change of other fields leaves them
+pub levels_still : (mix : Vertex → Vertex → Vertex) → ((x y : Vertex) → level_from x (mix x y) ≡ x) →
+    {n : ℕ} {up : ℕ → ℕ} {c : ℕ} {vs ws : List Vertex} →
+    Only mix vs ws → LevelsPast n up c vs → LevelsPast n up c ws
+levels_still mix stays {n} {up} {c} {vs} {ws} only past = record {
+  levels = past_still n c vs ws (λ x. x.level) _ past.levels mix (λ x y. ap (λ z. z.level) (stays x y)) only;
+  depths = past_still n c vs ws (λ x. x.deepest.0) _ past.depths mix (λ x y. ap (λ z. z.deepest.0) (stays x y)) only;
+}
+
+pub places_still : (mix : Vertex → Vertex → Vertex) → ((x y : Vertex) → place_from x (mix x y) ≡ x) →
+    {n : ℕ} {up : ℕ → ℕ} {c free : ℕ} {vs ws : List Vertex} →
+    Only mix vs ws → PlacesPast n up c free vs → PlacesPast n up c free ws
+places_still mix stays {n} {up} {c} {free} {vs} {ws} only past = record {
+  places = past_still n c vs ws (λ x. x.place) _ past.places mix (λ x y. ap (λ z. z.place) (stays x y)) only;
+  firsts = past_still n c vs ws (λ x. x.first.0) _ past.firsts mix (λ x y. ap (λ z. z.first.0) (stays x y)) only;
+  next = λ w p q.
+      let last : (vertex ws w).last ≡ (vertex vs w).last = ap (λ x. x.last) (only w) ∙ ap (λ z. z.last) (stays _ _) in
+      ap (λ l. cond (eqb w 0) free l + sum (size n up) (above n up w c) + 1) last ∙ past.next w p q;
+}
+
+pub noted_still : (mix : Vertex → Vertex → Vertex) → ((x y : Vertex) → (mix x y).at ≡ x.at) →
+    (n : ℕ) (up : ℕ → ℕ) (c : ℕ) (vs ws : List Vertex) → Only mix vs ws → NotedPast n up c vs → NotedPast n up c ws
+noted_still mix stays n up c vs ws only past w p q =
+    ap (λ x. x.at) (only (place n up w)) ∙ stays _ _ ∙ past w p q
+
 module _ (n : ℕ) (up : ℕ → ℕ) (grows : Grows n up) where
+  pub levels_begin : (vs : List Vertex) → LevelsPast n up n vs
+  levels_begin vs = record { levels = λ w p q. absurd (omega arith); depths = λ w p q. absurd (omega arith) }
+
   pub places_begin : (vs : List Vertex) → PlacesPast n up n n vs
   unfolding sum
   places_begin vs =
       record {
         places = λ w p q. absurd (omega arith);
+        firsts = λ w p q. absurd (omega arith);
         next = λ w p q.
             let none : n + sum (size n up) (above n up 0 n) + 1 ≡ spot n up 0 =
             let a = ap (sum (size n up)) (above_none n up grows 0) in let b = spot_none n up grows in omega arith in
             elim (cases_eq w 0) [
-              | inl z ↦ subst (λ w. next_place vs n w + sum (size n up) (above n up w n) + 1 ≡ spot n up w) (sym z) none
+              | inl z ↦
+                  subst (λ w. next_place vs n w + sum (size n up) (above n up w n) + 1 ≡ spot n up w) (sym z) none
               | inr some ↦ absurd (let l = p (omega arith) in omega arith)
             ];
       }
@@ -208,10 +251,10 @@ module _ (n : ℕ) (up : ℕ → ℕ) (grows : Grows n up) where
       place_only : Only place_from vs ws
       place_only = subst (Only place_from vs) (sym is) (taken_only vs free x from (omega arith) apart high)
 
-      own_is : vertex ws x ≡ with_last (with_place (vertex vs x) (place n up x)) (place n up x - 1)
+      own_is : vertex ws x ≡ at_its_place (vertex vs x) (place n up x)
       own_is =
           ap (λ t. vertex t x) is ∙ taken_own vs free x from (omega arith) apart high
-          ∙ ap (λ p. with_last (with_place (vertex vs x) p) (p - 1)) mine_is
+          ∙ ap (at_its_place (vertex vs x)) mine_is
 
       next_other : (w : ℕ) → w ≢ x → next_place ws after w
           ≡ cond (eqb (up x) w) (next_place vs free w - size n up x) (next_place vs free w)
@@ -253,16 +296,18 @@ module _ (n : ℕ) (up : ℕ → ℕ) (grows : Grows n up) where
                 omega arith
           ]
 
+      others : {A : Type 0} (field : Vertex → A) → ((y : Vertex) (l : ℕ) → field (with_last y l) ≡ field y) →
+          (w : ℕ) → 1 ≤ w → w ≢ x → field (vertex ws w) ≡ field (vertex vs w)
+      others field stays w p ne =
+          ap (λ t. field (vertex t w)) is ∙ taken_field vs free x from (omega arith) apart high field stays w p ne
+
       places_more : PlacesPast n up (x - 1) after ws
       places_more =
           record {
-            places = λ w p q. elim (cases_eq w x) [
-              | inl i ↦ ap (λ y. (vertex ws y).place) i ∙ ap (λ y. y.place) own_is ∙ ap (place n up) (sym i)
-              | inr ne ↦
-                  ap (λ t. (vertex t w).place) is
-                  ∙ taken_place vs free x from (omega arith) apart high w (omega arith) ne
-                  ∙ past.places w (omega arith) q
-            ];
+            places = past_more n x vs ws (λ y. y.place) _ past.places (others (λ y. y.place) (λ _ _. refl))
+                (ap (λ y. y.place) own_is);
+            firsts = past_more n x vs ws (λ y. y.first.0) _ past.firsts (others (λ y. y.first.0) (λ _ _. refl))
+                (ap (λ y. y.first.0) own_is);
             next = λ w p q. elim (cases_eq w x) [
               | inl i ↦ subst (λ y. next_place ws after y + sum (size n up) (above n up y (x - 1)) + 1 ≡ spot n up y)
                   (sym i) next_own
@@ -273,22 +318,59 @@ module _ (n : ℕ) (up : ℕ → ℕ) (grows : Grows n up) where
       pub place_step : PlacesPast n up (x - 1) after ws × Only place_from vs ws
       place_step = (places_more, place_only)
 
-  -- The walk: of the vertices before v, each is noted at its place.
+  -- a level more: the parent stands past v, so it has its own
+  module _ (v : ℕ) (vs ws : List Vertex) (from : 1 ≤ v) (to : v ≤ n) (long : n ≤ length vs)
+      (parents : parent_of vs ≡ up) (is : ws ≡ levelled vs v) where
+    abbrev own_level : Vertex
+    own_level = on_level (vertex vs v) (level_below vs v)
+
+    below_is : Past n v (λ x. x.level) (level n up) vs → level_below vs v ≡ level n up v
+    below_is past =
+        let h : math.Vertex n v = record { named = from; fits = to } in
+        ap (λ f. cond (eqb (f v) 0) 0 ((vertex vs (f v)).level + 1)) parents
+        ∙ elim (cases_eq (up v) 0) [
+          | inl z ↦ cond-true _ _ _ (eq-eqb (up v) 0 z) ∙ sym (level_root n up grows v h z)
+          | inr ne ↦
+              let r = grows.rises v from to (omega arith) in
+              cond-false _ _ _ (ne_eqb (up v) 0 ne)
+              ∙ ap (λ l. l + 1) (past (up v) (omega arith) (grows.stays v from to))
+              ∙ sym (level_child n up grows v h (omega arith))
+        ]
+
+    level_others : (w : ℕ) → 1 ≤ w → w ≢ v → vertex ws w ≡ vertex vs w
+    level_others w p ne = ap (λ t. vertex t w) is ∙ vertex_other vs v w own_level from p ne
+
+    level_own : vertex ws v ≡ own_level
+    level_own = ap (λ t. vertex t v) is ∙ vertex_same vs v own_level from (omega arith)
+
+    pub level_step : LevelsPast n up v vs → LevelsPast n up (v - 1) ws × Only level_from vs ws
+    level_step past = (
+      record {
+        levels = past_more n v vs ws (λ x. x.level) _ past.levels
+            (λ w p ne. ap (λ x. x.level) (level_others w p ne))
+            (ap (λ x. x.level) level_own ∙ below_is past.levels);
+        depths = past_more n v vs ws (λ x. x.deepest.0) _ past.depths
+            (λ w p ne. ap (λ x. x.deepest.0) (level_others w p ne))
+            (ap (λ x. x.deepest.0) level_own ∙ below_is past.levels);
+      },
+      only_set level_takes vs (v - 1) own_level ws refl is,
+    )
+
+  -- a note more: each vertex past v, and then v, is noted at its place
   module _ (v : ℕ) (vs ws : List Vertex) (from : 1 ≤ v) (to : v ≤ n) (long : n ≤ length vs)
       (placed : (vertex vs v).place ≡ place n up v) (is : ws ≡ noted vs v) where
-    spotted : ws ≡ set vs (place n up v - 1) (with_at (vertex vs (place n up v)) v)
+    abbrev marked : Vertex
+    marked = with_at (vertex vs (place n up v)) v
+
+    spotted : ws ≡ set vs (place n up v - 1) marked
     spotted = is ∙ ap (λ k. set vs (k - 1) (with_at (vertex vs k) v)) placed
 
     this : math.Vertex n v
     this = record { named = from; fits = to }
 
-    walk_only : Only at_from vs ws
-    walk_only = only_set at_takes vs (place n up v - 1) (with_at (vertex vs (place n up v)) v) ws refl spotted
-
-    walk_more : ((w : ℕ) → 1 ≤ w → w < v → (vertex vs (place n up w)).at ≡ w) →
-        (w : ℕ) → 1 ≤ w → w < v + 1 → (vertex ws (place n up w)).at ≡ w
+    noted_more : NotedPast n up v vs → NotedPast n up (v - 1) ws
     unfolding this
-    walk_more noted-before w p q =
+    noted_more past w p q =
         let (low, high) = place_bounds n up grows v this in
         elim (cases_eq w v) [
           | inl i ↦
@@ -296,24 +378,21 @@ module _ (n : ℕ) (up : ℕ → ℕ) (grows : Grows n up) where
               ∙ ap (λ t. (vertex t (place n up v)).at) spotted
               ∙ ap (λ y. y.at) (vertex_same vs (place n up v) _ low (omega arith)) ∙ sym i
           | inr ne ↦
-              let h : math.Vertex n w = record { named = p; fits = omega arith } in
+              let h : math.Vertex n w = record { named = omega arith; fits = q } in
               ap (λ t. (vertex t (place n up w)).at) spotted
               ∙ ap (λ y. y.at) (vertex_other vs (place n up v) (place n up w) _ low (place_bounds n up grows w h).0
               (λ e. ne (place_apart n up grows w v h this e)))
-              ∙ noted-before w p (omega arith)
+              ∙ past w (omega arith) q
         ]
 
-    pub walk_step : ((w : ℕ) → 1 ≤ w → w < v → (vertex vs (place n up w)).at ≡ w) →
-        ((w : ℕ) → 1 ≤ w → w < v + 1 → (vertex ws (place n up w)).at ≡ w) × Only at_from vs ws
-    walk_step before = (walk_more before, walk_only)
+    pub note_step : NotedPast n up v vs → NotedPast n up (v - 1) ws × Only at_from vs ws
+    note_step past = (noted_more past, only_set at_takes vs (place n up v - 1) marked ws refl spotted)
 
-  pub walk_whole : (vs : List Vertex) → ((w : ℕ) → 1 ≤ w → w < n + 1 → (vertex vs (place n up w)).at ≡ w) →
+  pub walk_whole : (vs : List Vertex) → NotedPast n up 0 vs →
       (k : ℕ) → 1 ≤ k → k ≤ n → (vertex vs k).at ≡ at_place n up k
   walk_whole vs each k p q =
       let h = at_place_vertex n up grows k p q in
-      let low = h.named in
-      let high = h.fits in
-      ap (λ j. (vertex vs j).at) (sym (place_at n up grows k p q)) ∙ each (at_place n up k) low (omega arith)
+      ap (λ j. (vertex vs j).at) (sym (place_at n up grows k p q)) ∙ each (at_place n up k) h.named h.fits
 
   -- the parents of a pattern make its elimination tree
   pub in_order_as : (vs : List Vertex) → Ordered n up vs → (p : Pattern) → n ≡ p.order →

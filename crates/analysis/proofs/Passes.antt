@@ -1,13 +1,11 @@
--- What a pass over the vertices leaves, and the steps of the levels, from n down to 1.
-use Rattle.std.proofs.Common.{◌≡◌, ℕ, ◌+◌, ◌-◌, ◌<◌, ◌≤◌, cond, eqb, ◌≢◌, List, length, set, sym, refl, ap, ◌∙◌, inl, inr, arith}
-use Rattle.std.proofs.lemmas.Bool.{cases_eq, cond-true, cond-false, eq-eqb, ne_eqb}
-use Rattle.pattern.specs.Forest.{Grows, level}
-use Rattle.pattern.proofs.Tests as math
-use Rattle.pattern.proofs.Forest.{level_root, level_child}
+-- What a pass over the vertices leaves, and what it has done once it is past some of them, from n down to 1.
+use Rattle.std.proofs.Common.{◌≡◌, ℕ, ◌-◌, ◌<◌, ◌≤◌, ◌≢◌, List, length, sym, ap, ◌∙◌, inl, inr, arith}
+use Rattle.std.proofs.lemmas.Bool.{cases_eq}
+use Rattle.pattern.specs.Forest.{Grows}
 use Rattle.analysis.specs.declared.records.Vertex.{Vertex}
-use Rattle.analysis.specs.Tables.{vertex, parent_of, with_level, level_from, Only}
-use Rattle.analysis.specs.Order.{Forest, Holds, level_below}
-use Rattle.analysis.proofs.Changes.{at_equal, vertex_same, vertex_other, level_takes, only_set, same_parents, grows_only}
+use Rattle.analysis.specs.Tables.{vertex, parent_of, Only}
+use Rattle.analysis.specs.Order.{Forest, Holds}
+use Rattle.analysis.proofs.Changes.{at_equal, same_parents, grows_only}
 
 -- A pass leaves the parents: then the vertices are the same forest, and what holds by its trees holds by their own.
 module _ (mix : Vertex → Vertex → Vertex) (keeps : (x y : Vertex) → (mix x y).parent ≡ x.parent) (vs ws : List Vertex)
@@ -35,44 +33,22 @@ module _ (mix : Vertex → Vertex → Vertex) (keeps : (x y : Vertex) → (mix x
   holds_still field f stays h =
       holds_after field f (λ v p q. ap field (only v) ∙ stays (vertex vs v) (vertex ws v) ∙ h v p q)
 
--- the vertices past c have their levels
-abbrev pub LevelsPast : ℕ → (ℕ → ℕ) → ℕ → List Vertex → Type 0
-LevelsPast n up c vs = (w : ℕ) → c < w → w ≤ n → (vertex vs w).level ≡ level n up w
+-- in the records of the vertices past c, up to n, the field is what f gives
+abbrev pub Past : {A : Type 0} → ℕ → ℕ → (Vertex → A) → (ℕ → A) → List Vertex → Type 0
+Past n c field f vs = (w : ℕ) → c < w → w ≤ n → field (vertex vs w) ≡ f w
 
-module _ (n : ℕ) (up : ℕ → ℕ) (v : ℕ) (vs ws : List Vertex) (from : 1 ≤ v) (to : v ≤ n) (long : n ≤ length vs)
-    (grows : Grows n up) (parents : parent_of vs ≡ up)
-    (is : ws ≡ set vs (v - 1) (with_level (vertex vs v) (level_below vs v))) where
-  level_only : Only level_from vs ws
-  level_only = only_set level_takes vs (v - 1) (with_level (vertex vs v) (level_below vs v)) ws refl is
+module _ {A : Type 0} (n c : ℕ) (vs ws : List Vertex) (field : Vertex → A) (f : ℕ → A)
+    (past : Past n c field f vs) where
+  -- a field that a change leaves
+  pub past_still : (mix : Vertex → Vertex → Vertex) → ((x y : Vertex) → field (mix x y) ≡ field x) →
+      Only mix vs ws → Past n c field f ws
+  past_still mix stays only w p q = ap field (only w) ∙ stays (vertex vs w) (vertex ws w) ∙ past w p q
 
-  other : (w : ℕ) → 1 ≤ w → w ≢ v → vertex ws w ≡ vertex vs w
-  other w p ne = ap (λ t. vertex t w) is ∙ vertex_other vs v w (with_level (vertex vs v) (level_below vs v)) from p ne
-
-  set_level : (vertex ws v).level ≡ level_below vs v
-  set_level =
-      ap (λ t. (vertex t v).level) is ∙
-      ap (λ x. x.level) (vertex_same vs v (with_level (vertex vs v) (level_below vs v)) from (omega arith))
-
-  -- the parent stands past v, so it has its level
-  below_is : LevelsPast n up v vs → level_below vs v ≡ level n up v
-  below_is t =
-      let h : math.Vertex n v = record { named = from; fits = to } in
-      ap (λ f. cond (eqb (f v) 0) 0 ((vertex vs (f v)).level + 1)) parents
-      ∙ elim (cases_eq (up v) 0) [
-        | inl z ↦ cond-true _ _ _ (eq-eqb (up v) 0 z) ∙ sym (level_root n up grows v h z)
-        | inr ne ↦
-            let r = grows.rises v from to (omega arith) in
-            cond-false _ _ _ (ne_eqb (up v) 0 ne)
-            ∙ ap (λ l. l + 1) (t (up v) (omega arith) (grows.stays v from to))
-            ∙ sym (level_child n up grows v h (omega arith))
+  -- one vertex more
+  pub past_more : ((w : ℕ) → 1 ≤ w → w ≢ c → field (vertex ws w) ≡ field (vertex vs w)) → field (vertex ws c) ≡ f c →
+      Past n (c - 1) field f ws
+  past_more others own w p q =
+      elim (cases_eq w c) [
+        | inl i ↦ ap (λ y. field (vertex ws y)) i ∙ own ∙ ap f (sym i)
+        | inr ne ↦ others w (omega arith) ne ∙ past w (omega arith) q
       ]
-
-  levels_more : LevelsPast n up v vs → LevelsPast n up (v - 1) ws
-  levels_more t w p q =
-      elim (cases_eq w v) [
-        | inl i ↦ ap (λ y. (vertex ws y).level) i ∙ set_level ∙ below_is t ∙ ap (level n up) (sym i)
-        | inr ne ↦ ap (λ x. x.level) (other w (omega arith) ne) ∙ t w (omega arith) q
-      ]
-
-  pub level_step : LevelsPast n up v vs → LevelsPast n up (v - 1) ws × Only level_from vs ws
-  level_step t = (levels_more t, level_only)

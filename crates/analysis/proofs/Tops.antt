@@ -18,7 +18,8 @@ use Rattle.analysis.specs.Tables as tables
 use Rattle.analysis.specs.Tables.{entry, pair_of, pairs_of, vertex, no_vertex, parent_of}
 use Rattle.analysis.specs.Tables.{with_parent, parent_from, Only}
 use Rattle.analysis.specs.Links.{Linked, AllLinked}
-use Rattle.analysis.specs.Growth.{pattern_of, pattern_in, Fresh, Adopted, adopted, Tree, Rooted}
+use Rattle.analysis.specs.Growth.{pattern_of, pattern_in, Fresh, alone, Adopted, adopted, Tree, Rooted}
+use Rattle.analysis.specs.Order.{AllWeighOne}
 use Rattle.analysis.proofs.Changes.{vertex_same, vertex_other, parent_takes, only_none, only_set, vertex_map}
 use Rattle.analysis.proofs.Chains.{Met, Taken, met_head, met_link, head_last, link_last, pair_at, sound_at, lower_at}
 
@@ -183,11 +184,21 @@ module _ (n : ℕ) (es : List Entry) (u k : ℕ) (sound : tables.Sound n (pairs_
           row.taken j (omega arith) fits (ap (λ q. q.1) at ∙ second)
 
 -- no row is done, and all are roots
+-- every vertex is alone at first, and keeps its weight then
+pub all_alone : (vs ws : List Vertex) → ws ≡ map alone vs → AllWeighOne ws
+all_alone vs ws is v p q =
+    let l = ap length is ∙ length-map vs alone in
+    ap (λ t. (vertex t v).weight.0) is ∙ ap (λ x. x.weight.0) (vertex_map alone vs v p (omega arith))
+
+pub weights_stay : (vs ws : List Vertex) → length ws ≡ length vs → Only parent_from vs ws → AllWeighOne vs →
+    AllWeighOne ws
+weights_stay vs ws long only ones v p q = ap (λ x. x.weight.0) (only v) ∙ ones v p (omega arith)
+
 pub rows_none : (es : List Entry) (s : Sets) (vs ws : List Vertex) →
-    ws ≡ map (λ x. with_parent x 0) vs → Fresh (length vs) s → AfterRows (pattern_in vs es) 0 (parent_of ws) s.top
+    ws ≡ map alone vs → Fresh (length vs) s → AfterRows (pattern_in vs es) 0 (parent_of ws) s.top
 rows_none es s vs ws is fresh =
     rows_start (pattern_in vs es) (parent_of ws) s.top
-    (λ v p q. ap (λ t. parent_of t v) is ∙ ap (λ x. x.parent) (vertex_map (λ x. with_parent x 0) vs v p q))
+    (λ v p q. ap (λ t. parent_of t v) is ∙ ap (λ x. x.parent) (vertex_map alone vs v p q))
     fresh.own
 
 -- the last row is done

@@ -1,13 +1,14 @@
 -- The tree grown with ancestor sets: how the sets begin, what one adoption does, and what the tables hold at the end.
-use Rattle.std.specs.Prelude.{◌≡◌, ℕ, ◌-◌, ◌≤◌, true, cond, List, length, ◌==◌, slice_set}
+use Rattle.std.specs.Prelude.{◌≡◌, ℕ, ◌-◌, ◌≤◌, true, cond, List, length, pos, ◌==◌, slice_set}
 use Rattle.pattern.specs.Patterns.{Pattern}
 use Rattle.pattern.specs.Elimination.{parent}
 use Rattle.pattern.specs.Crowns.{AfterRows}
 use Rattle.pattern.specs.Fill.{in_subtree}
 use Rattle.sets.specs.Meaning.{Sets}
+use Rattle.gather.specs.Kinds.{weight}
 use Rattle.analysis.specs.declared.records.Entry.{Entry}
 use Rattle.analysis.specs.declared.records.Vertex.{Vertex}
-use Rattle.analysis.specs.Tables.{vertex, parent_of, with_parent, pairs_of}
+use Rattle.analysis.specs.Tables.{vertex, parent_of, with_parent, with_weight, pairs_of}
 
 -- the pattern of the vertices 1 to n that the entries make up
 abbrev pub pattern_of : ℕ → List Entry → Pattern
@@ -21,6 +22,10 @@ pattern_in vs es = pattern_of (length vs) es
 pub record Fresh (n : ℕ) (s : Sets) : Type 0 where
   pub used : s.used ≡ n
   pub own : (v : ℕ) → 1 ≤ v → v ≤ n → s.top v ≡ v
+
+-- a root with a weight of 1
+abbrev pub alone : Vertex → Vertex
+alone x = with_weight (with_parent x 0) (weight (pos 1))
 
 -- the tree of the pattern as it is once the rows 1 to u are done, in the parents and the tops
 abbrev pub Grown : Pattern → ℕ → List Vertex → Sets → Type 0

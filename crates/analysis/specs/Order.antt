@@ -7,8 +7,10 @@ use Rattle.pattern.specs.Elimination.{parent}
 use Rattle.pattern.specs.Forest as forest
 use Rattle.pattern.specs.Walks as walks
 use Rattle.pattern.specs.Analysis.{level_of, place_of, first_place_of, height_of}
+use Rattle.gather.specs.Kinds.{least_place, greatest_level}
 use Rattle.analysis.specs.declared.records.Vertex.{Vertex}
-use Rattle.analysis.specs.Tables.{vertex, parent_of, with_place, with_last, with_at}
+use Rattle.analysis.specs.Tables.{vertex, parent_of}
+use Rattle.analysis.specs.Tables.{with_level, with_place, with_first, with_deepest, with_last, with_at}
 
 -- not too many vertices, and each one's parent a greater vertex, or 0
 pub record Forest (vs : List Vertex) : Type 0 where
@@ -23,6 +25,14 @@ level_under vs w = cond (w == 0) 0 ((vertex vs w).level + 1)
 abbrev pub level_below : List Vertex → ℕ → ℕ
 level_below vs v = level_under vs (parent_of vs v)
 
+-- a vertex on its level, with which the greatest level in its subtree begins
+abbrev pub on_level : Vertex → ℕ → Vertex
+on_level x l = with_deepest (with_level x l) (greatest_level l)
+
+-- the vertices once v has its level
+abbrev pub levelled : List Vertex → ℕ → List Vertex
+levelled vs v = slice_set vs (v - 1) (on_level (vertex vs v) (level_below vs v))
+
 -- the number of vertices in the subtree, while the weight holds it
 abbrev pub size_in : Vertex → ℕ
 size_in x = unsigned_abs x.weight.0
@@ -31,9 +41,13 @@ size_in x = unsigned_abs x.weight.0
 abbrev pub next_place : List Vertex → ℕ → ℕ → ℕ
 next_place vs free w = cond (w == 0) free (vertex vs w).last
 
--- the vertices once v has its place, and its children are to stand before it
+-- a vertex at its place, with which the least place in its subtree begins; its children are to stand before it
+abbrev pub at_its_place : Vertex → ℕ → Vertex
+at_its_place x p = with_first (with_last (with_place x p) (p - 1)) (least_place p)
+
+-- the vertices once v has its place
 abbrev pub placed_at : List Vertex → ℕ → ℕ → List Vertex
-placed_at vs v p = slice_set vs (v - 1) (with_last (with_place (vertex vs v) p) (p - 1))
+placed_at vs v p = slice_set vs (v - 1) (at_its_place (vertex vs v) p)
 
 -- the vertices once p is the place for the next child of w
 abbrev pub freed_to : List Vertex → ℕ → ℕ → List Vertex
@@ -62,6 +76,10 @@ greatest_level_under n up v = greatest (forest.level n up) (forest.subtree n up 
 abbrev pub Holds : {A : Type 0} → ℕ → (Vertex → A) → (ℕ → (ℕ → ℕ) → ℕ → A) → List Vertex → Type 0
 Holds n field f vs = (v : ℕ) → 1 ≤ v → v ≤ n → field (vertex vs v) ≡ f n (parent_of vs) v
 
+-- each vertex weighs 1
+abbrev pub AllWeighOne : List Vertex → Type 0
+AllWeighOne vs = (v : ℕ) → 1 ≤ v → v ≤ length vs → (vertex vs v).weight.0 ≡ pos 1
+
 abbrev pub Levelled : ℕ → List Vertex → Type 0
 Levelled n vs = Holds n (λ x. x.level) forest.level vs
 
@@ -73,6 +91,11 @@ Placed n vs = Holds n (λ x. x.place) forest.place vs
 
 abbrev pub Walked : ℕ → List Vertex → Type 0
 Walked n vs = Holds n (λ x. x.at) walks.at_place vs
+
+-- what each subtree reaches begins with the vertex's own place and level
+pub record ReachBegun (n : ℕ) (vs : List Vertex) : Type 0 where
+  pub places : Holds n (λ x. x.first.0) forest.place vs
+  pub levels : Holds n (λ x. x.deepest.0) forest.level vs
 
 abbrev pub FirstPlaced : ℕ → List Vertex → Type 0
 FirstPlaced n vs = Holds n (λ x. x.first.0) forest.first_place vs

@@ -84,6 +84,9 @@ with_first x y = record x { first = y }
 abbrev pub with_deepest : Vertex → GreatestLevel → Vertex
 with_deepest x y = record x { deepest = y }
 
+abbrev pub with_reach : Vertex → LeastPlace × GreatestLevel → Vertex
+with_reach x y = with_deepest (with_first x y.0) y.1
+
 abbrev pub with_rows : Vertex → ℕ → Vertex
 with_rows x y = record x { rows = y }
 
@@ -113,23 +116,25 @@ head_from x y = with_head x y.head
 abbrev pub parent_from : Vertex → Vertex → Vertex
 parent_from x y = with_parent x y.parent
 
-abbrev pub level_from : Vertex → Vertex → Vertex
-level_from x y = with_level x y.level
-
 abbrev pub weight_from : Vertex → Vertex → Vertex
 weight_from x y = with_weight x y.weight
 
+abbrev pub tree_from : Vertex → Vertex → Vertex
+tree_from x y = with_weight (with_parent x y.parent) y.weight
+
+-- x, with the level of y, and the greatest level in the subtree, which begins with it
+abbrev pub level_from : Vertex → Vertex → Vertex
+level_from x y = with_deepest (with_level x y.level) y.deepest
+
+-- x, with the place of y, the next for a child, and the least in the subtree
 abbrev pub place_from : Vertex → Vertex → Vertex
-place_from x y = with_last (with_place x y.place) y.last
+place_from x y = with_first (with_last (with_place x y.place) y.last) y.first
 
 abbrev pub at_from : Vertex → Vertex → Vertex
 at_from x y = with_at x y.at
 
-abbrev pub first_from : Vertex → Vertex → Vertex
-first_from x y = with_first x y.first
-
-abbrev pub deepest_from : Vertex → Vertex → Vertex
-deepest_from x y = with_deepest x y.deepest
+abbrev pub reach_from : Vertex → Vertex → Vertex
+reach_from x y = with_reach x (y.first, y.deepest)
 
 abbrev pub counts_from : Vertex → Vertex → Vertex
 counts_from x y = with_met (with_last (with_weight (with_rows x y.rows) y.weight) y.last) y.met
@@ -137,3 +142,7 @@ counts_from x y = with_met (with_last (with_weight (with_rows x y.rows) y.weight
 -- x, with all but the parent, the head, the row count and the place met last of y
 abbrev pub order_from : Vertex → Vertex → Vertex
 order_from x y = with_met (with_rows (with_head (with_parent y x.parent) x.head) x.rows) x.met
+
+-- the same, but for the weight
+abbrev pub walk_from : Vertex → Vertex → Vertex
+walk_from x y = with_weight (order_from x y) x.weight

@@ -1,6 +1,6 @@
-// What is gathered up the tree: the vertex record as a node that holds a weight, a least place or a greatest level.
-// One impl for each field: they differ in the field alone, and the gate refuses impls that a macro writes.
-ghost use Rattle.analysis.specs.Tables.{no_vertex, with_weight, with_first, with_deepest};
+// What is gathered up the tree: the vertex record as a node that holds a weight, and a least place with a greatest
+// level.
+ghost use Rattle.analysis.specs.Tables.{no_vertex, with_weight, with_reach};
 ghost use Rattle.std.proofs.Common.{rules};
 
 use crate::records::Vertex;
@@ -34,34 +34,25 @@ impl Node<Weight> for Vertex {
     }
 }
 
-impl Node<LeastPlace> for Vertex {
-    ghost held = { λ x. x.first };
+// What a subtree reaches: the least of its places, and the greatest of its levels.
+pub type Reach = (LeastPlace, GreatestLevel);
 
-    ghost holding = { with_first };
+impl Node<Reach> for Vertex {
+    ghost held = { λ x. (x.first, x.deepest) };
 
-    ghost laws = { Prim.search rules };
-
-    fn value(&self) -> LeastPlace {
-        LeastPlace::from(self.first.0)
-    }
-
-    fn set_value(&mut self, value: LeastPlace) {
-        self.first = value;
-    }
-}
-
-impl Node<GreatestLevel> for Vertex {
-    ghost held = { λ x. x.deepest };
-
-    ghost holding = { with_deepest };
+    ghost holding = { with_reach };
 
     ghost laws = { Prim.search rules };
 
-    fn value(&self) -> GreatestLevel {
-        GreatestLevel::from(self.deepest.0)
+    fn value(&self) -> Reach {
+        (
+            LeastPlace::from(self.first.0),
+            GreatestLevel::from(self.deepest.0),
+        )
     }
 
-    fn set_value(&mut self, value: GreatestLevel) {
-        self.deepest = value;
+    fn set_value(&mut self, value: Reach) {
+        self.first = value.0;
+        self.deepest = value.1;
     }
 }

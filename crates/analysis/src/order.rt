@@ -1,16 +1,28 @@
-// From the parents to levels, sizes of subtrees, places, the walk by place, and what the subtrees reach.
+// From the parents to the sizes of subtrees, by one way down to levels, places and the walk by place, and up again to
+// what the subtrees reach.
 ghost use Rattle.std.specs.Prelude.{◌≡◌, ◌-◌, ◌<◌, ◌≤◌, length, pos};
 ghost use Rattle.pattern.specs.Patterns.{Pattern};
-ghost use Rattle.analysis.specs.Tables.{vertex, parent_of, Has, with_place, with_last, Only};
-ghost use Rattle.analysis.specs.Tables.{level_from, weight_from, place_from, at_from, first_from, deepest_from};
-ghost use Rattle.analysis.specs.Tables.{order_from};
-ghost use Rattle.analysis.specs.Order.{Forest, level_under, size_in, next_place, taken, free_after, noted};
-ghost use Rattle.analysis.specs.Order.{Levelled, Sized, Placed, Walked, FirstPlaced, Sounded};
+ghost use Rattle.analysis.specs.Tables.{vertex, parent_of, Has, Only};
+ghost use Rattle.analysis.specs.Tables.{weight_from, walk_from, reach_from, order_from};
+ghost use Rattle.analysis.specs.Order.{Forest, AllWeighOne, level_under, on_level, levelled};
+ghost use Rattle.analysis.specs.Order.{size_in, next_place, at_its_place, taken, free_after, noted};
+ghost use Rattle.analysis.specs.Order.{Levelled, Sized, Placed, Walked, ReachBegun, FirstPlaced, Sounded};
 ghost use Rattle.analysis.specs.Order.{Ordered, ParentsOf, OrderedAs};
 
+use crate::nodes::Reach;
 use crate::records::Vertex;
-use gather::gathering::gather_from;
+use gather::gathering::gather;
 use gather::kinds::{GreatestLevel, LeastPlace, Weight};
+
+// The sizes of the subtrees, held by the weights.
+fn sizes(vertices: &mut [Vertex])
+    requires forest { Forest vertices.old }
+    requires ones { AllWeighOne vertices.old }
+    ensures sizes { Sized (length vertices.new) vertices.new }
+    ensures only { Only weight_from vertices.old vertices.new }
+{
+    gather::<Weight, Vertex>(vertices);
+}
 
 // One more than the level of the parent, which has its level already; 0 if there is none.
 fn level_under(parent: u32, vertices: &[Vertex]) -> u32
@@ -25,27 +37,6 @@ fn level_under(parent: u32, vertices: &[Vertex]) -> u32
     }
 }
 
-// The levels, from the parents down.
-fn levels(vertices: &mut [Vertex])
-    requires { Forest vertices.old }
-    ensures levels { Levelled (length vertices.new) vertices.new }
-    ensures only { Only level_from vertices.old vertices.new }
-{
-    // By number, as each step reads another record: a loop over the slice can't, and to split it is no plainer.
-    for v in (1..=vertices.len()).rev() {
-        vertices[v - 1].level = level_under(vertices[v - 1].parent, vertices);
-    }
-}
-
-// The sizes of the subtrees, held by the weights.
-fn sizes(vertices: &mut [Vertex])
-    requires { Forest vertices.old }
-    ensures sizes { Sized (length vertices.new) vertices.new }
-    ensures only { Only weight_from vertices.old vertices.new }
-{
-    gather_from(vertices, |_| Weight(1));
-}
-
 impl Vertex {
     // The number of vertices in the subtree, once the sizes are gathered.
     fn size(&self) -> u32
@@ -56,14 +47,35 @@ impl Vertex {
         self.weight.0 as u32
     }
 
-    // Gives the vertex its place, and the one before to the next of its children.
+    // Gives the vertex its level, with which the greatest level in its subtree begins.
+    fn set_level(&mut self, level: u32)
+        ensures { self.new ≡ on_level self.old level }
+    {
+        self.level = level;
+        self.deepest = GreatestLevel(level);
+    }
+
+    // Gives the vertex its place, with which the least in its subtree begins, and the one before to the next of its
+    // children.
     fn set_place(&mut self, place: u32)
         requires { 1 ≤ place }
-        ensures { self.new ≡ with_last (with_place self.old place) (place - 1) }
+        ensures { self.new ≡ at_its_place self.old place }
     {
         self.place = place;
+        self.first = LeastPlace(place);
         self.last = place - 1;
     }
+}
+
+// Gives v its level, once its parent has its own.
+fn take_level(v: usize, vertices: &mut [Vertex])
+    requires has { Has vertices.old v }
+    requires parent { parent_of vertices.old v ≤ length vertices.old }
+    requires small { 1 ≤ parent_of vertices.old v → (vertex vertices.old (parent_of vertices.old v)).level < 16384 }
+    ensures { vertices.new ≡ levelled vertices.old v }
+{
+    let level = level_under(vertices[v - 1].parent, vertices);
+    vertices[v - 1].set_level(level);
 }
 
 // Gives v the last place that is free below its parent, with those before it to the subtree of v, and answers the last
@@ -90,21 +102,6 @@ fn take_place(v: usize, free: u32, vertices: &mut [Vertex]) -> u32
     free
 }
 
-// The places from the last to the first: a vertex stands after all below it, and siblings in the order of their
-// numbers.
-fn places(vertices: &mut [Vertex])
-    requires forest { Forest vertices.old }
-    requires sizes { Sized (length vertices.old) vertices.old }
-    ensures places { Placed (length vertices.new) vertices.new }
-    ensures only { Only place_from vertices.old vertices.new }
-{
-    let mut free = vertices.len() as u32;
-    // By number, as each step writes another record too: to split the slice would be no plainer.
-    for v in (1..=vertices.len()).rev() {
-        free = take_place(v, free, vertices);
-    }
-}
-
 // Notes v at its place.
 fn note_place(v: usize, vertices: &mut [Vertex])
     requires has { Has vertices.old v }
@@ -117,50 +114,46 @@ fn note_place(v: usize, vertices: &mut [Vertex])
     vertices[place - 1].at = v as u32;
 }
 
-// The vertex at each place.
-fn walk_order(vertices: &mut [Vertex])
+// Levels, places and the walk by place, from the last vertex to the first: a parent before its children. A vertex is one
+// level below its parent and stands after all below it, siblings in the order of their numbers.
+fn walk_down(vertices: &mut [Vertex])
     requires forest { Forest vertices.old }
-    requires places { Placed (length vertices.old) vertices.old }
+    requires sizes { Sized (length vertices.old) vertices.old }
+    ensures levels { Levelled (length vertices.new) vertices.new }
+    ensures places { Placed (length vertices.new) vertices.new }
     ensures walk { Walked (length vertices.new) vertices.new }
-    ensures only { Only at_from vertices.old vertices.new }
+    ensures begun { ReachBegun (length vertices.new) vertices.new }
+    ensures only { Only walk_from vertices.old vertices.new }
 {
-    // By number, as each step writes another record: to split the slice would be no plainer.
-    for v in 1..=vertices.len() {
+    let mut free = vertices.len() as u32;
+    // By number, as each step reads and writes other records too: to split the slice would be no plainer.
+    for v in (1..=vertices.len()).rev() {
+        take_level(v, vertices);
+        free = take_place(v, free, vertices);
         note_place(v, vertices);
     }
 }
 
-// The least place in each subtree.
-fn first_places(vertices: &mut [Vertex])
+// The least place and the greatest level in each subtree.
+fn reach(vertices: &mut [Vertex])
     requires forest { Forest vertices.old }
-    requires places { Placed (length vertices.old) vertices.old }
+    requires begun { ReachBegun (length vertices.old) vertices.old }
     ensures firsts { FirstPlaced (length vertices.new) vertices.new }
-    ensures only { Only first_from vertices.old vertices.new }
-{
-    gather_from(vertices, |vertex| LeastPlace::from(vertex.place));
-}
-
-// The greatest level in each subtree.
-fn depths(vertices: &mut [Vertex])
-    requires forest { Forest vertices.old }
-    requires levels { Levelled (length vertices.old) vertices.old }
     ensures depths { Sounded (length vertices.new) vertices.new }
-    ensures only { Only deepest_from vertices.old vertices.new }
+    ensures only { Only reach_from vertices.old vertices.new }
 {
-    gather_from(vertices, |vertex| GreatestLevel::from(vertex.level));
+    gather::<Reach, Vertex>(vertices);
 }
 
 // All that the tree alone gives: levels, places, the walk by place, first places and greatest levels.
 pub fn order(vertices: &mut [Vertex])
-    requires { Forest vertices.old }
+    requires forest { Forest vertices.old }
+    requires ones { AllWeighOne vertices.old }
     ensures ordered { Ordered (length vertices.old) (parent_of vertices.old) vertices.new }
     ensures answers { (p : Pattern) → ParentsOf p (length vertices.old) vertices.old → OrderedAs p vertices.new }
     ensures only { Only order_from vertices.old vertices.new }
 {
-    levels(vertices);
     sizes(vertices);
-    places(vertices);
-    walk_order(vertices);
-    first_places(vertices);
-    depths(vertices);
+    walk_down(vertices);
+    reach(vertices);
 }

@@ -35,7 +35,8 @@ pub struct Vertex {
     pub deepest: GreatestLevel,
     // The row count.
     pub rows: u32,
-    // At the end the column count; before that the size of the subtree, then this vertex's share of the column counts.
+    // At the end the column count; before that 1, then the size of the subtree, then this vertex's share of the column
+    // counts.
     pub weight: Weight,
     // The first entry of the neighbour list, by its 1-based position, or 0.
     pub head: u32,

@@ -2,20 +2,23 @@
 ghost use Rattle.std.specs.Prelude.{◌≡◌, ◌-◌, ◌≤◌, map, length};
 ghost use Rattle.analysis.specs.declared.records.End.{End};
 ghost use Rattle.analysis.specs.declared.records.End.TheVariants.{High};
-ghost use Rattle.analysis.specs.Tables.{parent_of, Has, with_parent, parent_from, Only};
+ghost use Rattle.analysis.specs.Tables.{parent_of, Has, parent_from, tree_from, Only};
 ghost use Rattle.analysis.specs.Links.{Listed};
-ghost use Rattle.analysis.specs.Growth.{pattern_in, Fresh, Grown, Adopted, adopted, Tree, Rooted};
-ghost use Rattle.analysis.specs.Order.{Forest};
+ghost use Rattle.analysis.specs.Growth.{pattern_in, Fresh, alone, Grown, Adopted, adopted, Tree, Rooted};
+ghost use Rattle.analysis.specs.Order.{Forest, AllWeighOne};
 
 use crate::records::{Entry, Vertex};
+use gather::kinds::Weight;
 use sets::AncestorSets;
 
-// Makes a root of each vertex. A loop, as where the lists and the counts begin: a closure would say no more.
+// Makes a root of each vertex, with a weight of 1. A loop, as where the lists and the counts begin: a closure would say
+// no more.
 fn begin_tree(vertices: &mut [Vertex])
-    ensures { vertices.new ≡ map (λ x. with_parent x 0) vertices.old }
+    ensures { vertices.new ≡ map alone vertices.old }
 {
     for vertex in vertices.iter_mut() {
         vertex.parent = 0;
+        vertex.weight = Weight(1);
     }
 }
 
@@ -64,7 +67,8 @@ pub fn grow<S: AncestorSets>(vertices: &mut [Vertex], entries: &[Entry], sets: &
     ensures used { (S.meaning sets.new).used ≡ length vertices.old }
     ensures size { (S.meaning sets.new).size ≡ (S.meaning sets.old).size }
     ensures forest { Forest vertices.new }
-    ensures only { Only parent_from vertices.old vertices.new }
+    ensures ones { AllWeighOne vertices.new }
+    ensures only { Only tree_from vertices.old vertices.new }
 {
     begin_tree(vertices);
     // By number, as each row writes other records: to split the slice would be no plainer.

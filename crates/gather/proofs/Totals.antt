@@ -1,10 +1,11 @@
--- What each kind comes to over a list of vertices: the sum, wrapped, the least and the greatest of the numbers held.
+-- What each kind comes to over a list of vertices: the sum, wrapped, the least and the greatest of the numbers held,
+-- and of two that are joined at once what each comes to.
 use Rattle.std.proofs.Common.{◌≡◌, ℕ, List, [], ◌∷◌, pos, refl, ap, ◌∙◌, w64}
 use Rattle.std.specs.Int.{int_wrap}
 use Rattle.std.proofs.lemmas.Int.{int_wrap-add_right}
 use Rattle.pattern.specs.Lists.{least, greatest}
 use Rattle.pattern.specs.Counts.{sum_ℤ}
-use Rattle.gather.specs.Joinings.{joined_over}
+use Rattle.gather.specs.Joinings.{joined_over, joined_both}
 use Rattle.gather.specs.declared.kinds.Weight.{Weight}
 use Rattle.gather.specs.declared.kinds.LeastPlace.{LeastPlace}
 use Rattle.gather.specs.declared.kinds.GreatestLevel.{GreatestLevel}
@@ -32,3 +33,10 @@ pub levels_over : (value : ℕ → GreatestLevel) (xs : List ℕ) →
 unfolding joined_over greatest
 levels_over value [] = refl
 levels_over value (x ∷ xs) = ap (greater (value x)) (levels_over value xs)
+
+pub both_over : {A B : Type 0} (a : A) (b : B) (f : A → A → A) (g : B → B → B) (value : ℕ → A × B) (xs : List ℕ) →
+    joined_over (a, b) (joined_both f g) value xs
+    ≡ (joined_over a f (λ x. (value x).0) xs, joined_over b g (λ x. (value x).1) xs)
+unfolding joined_over
+both_over a b f g value [] = refl
+both_over a b f g value (x ∷ xs) = ap (joined_both f g (value x)) (both_over a b f g value xs)

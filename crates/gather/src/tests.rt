@@ -76,6 +76,26 @@ impl Node<GreatestLevel> for Vertex {
     }
 }
 
+impl Node<(LeastPlace, GreatestLevel)> for Vertex {
+    ghost held = { λ x. (least_place x.place, greatest_level x.level) };
+
+    ghost holding = { λ x value. record x { place = value.0.0; level = value.1.0 } };
+
+    ghost laws = { Prim.search rules };
+
+    fn value(&self) -> (LeastPlace, GreatestLevel) {
+        (
+            LeastPlace::from(self.place),
+            GreatestLevel::from(self.level),
+        )
+    }
+
+    fn set_value(&mut self, value: (LeastPlace, GreatestLevel)) {
+        self.place = value.0.0;
+        self.level = value.1.0;
+    }
+}
+
 fn made(parent: u32, weight: i64, place: u32, level: u32) -> Vertex
     ensures { result ≡ record { parent = parent; weight = weight; place = place; level = level } }
 {
@@ -122,6 +142,14 @@ fn least_over_a_tree(rt: HostRuntime) {
 fn greatest_over_a_tree(rt: HostRuntime) {
     let mut tree = tree();
     gather::<GreatestLevel, Vertex>(&mut tree);
+    assert_eq!(rt; tree.map(|vertex| vertex.level), [3, 5, 5, 3, 5, 5]);
+}
+
+#[test]
+fn both_over_a_tree(rt: HostRuntime) {
+    let mut tree = tree();
+    gather::<(LeastPlace, GreatestLevel), Vertex>(&mut tree);
+    assert_eq!(rt; tree.map(|vertex| vertex.place), [4, 2, 2, 1, 2, 1]);
     assert_eq!(rt; tree.map(|vertex| vertex.level), [3, 5, 5, 3, 5, 5]);
 }
 

@@ -1,7 +1,7 @@
 use Rattle.std.proofs.Common.{◌≡◌, map, take, drop, ◌++◌}
-use Rattle.analysis.specs.Tables.{with_parent}
+use Rattle.analysis.specs.Growth.{alone}
 use Rattle.analysis.proofs.tree.begin_tree.Given as goal
 
 abbrev pub invariant-loop-vertex : goal.invariant-loop-vertex
 invariant-loop-vertex l =
-    l.vertices ≡ map (λ x. with_parent x 0) (take l.vertex-index l.initial.vertices) ++ drop l.vertex-index l.initial.vertices
+    l.vertices ≡ map alone (take l.vertex-index l.initial.vertices) ++ drop l.vertex-index l.initial.vertices

@@ -1,8 +1,8 @@
-use Rattle.std.proofs.Common.{refl, arith}
-use Rattle.analysis.specs.Tables.{with_parent}
-use Rattle.analysis.specs.Growth.{pattern_in}
-use Rattle.analysis.proofs.Changes.{parent_takes, only_map}
-use Rattle.analysis.proofs.Tops.{rows_none, rows_all, rows_tree, rows_rooted, tree_grows}
+use Rattle.std.proofs.Common.{refl, arith, rules}
+use Rattle.analysis.specs.Tables.{parent_from, tree_from}
+use Rattle.analysis.specs.Growth.{alone, pattern_in}
+use Rattle.analysis.proofs.Changes.{tree_takes, only_then, only_more, only_map}
+use Rattle.analysis.proofs.Tops.{all_alone, weights_stay, rows_none, rows_all, rows_tree, rows_rooted, tree_grows}
 use Rattle.analysis.proofs.tree.grow.Goals as goal
 
 pub loop-u-init : goal.loop-u-init
@@ -10,8 +10,19 @@ loop-u-init g c = (
   rows_none _ _ _ _ c.begin_tree.ensures c.requires.fresh,
   refl,
   c.requires.fresh.used,
-  only_map parent_takes (λ x. with_parent x 0) _ _ (λ _. refl) c.begin_tree.ensures,
+  all_alone _ _ c.begin_tree.ensures,
+  only_map tree_takes alone _ _ (λ _. refl) c.begin_tree.ensures,
 )
+
+pub loop-u-preserved : goal.loop-u-preserved
+loop-u-preserved g c =
+    let (grown, size, used, ones, only) = c.loop-u.invariant in (
+      search rules,
+      search rules,
+      search rules,
+      weights_stay _ _ (omega arith) c.adopt_row.ensures.only ones,
+      only_then tree_takes _ _ _ only (only_more parent_from tree_from (λ _ _. refl) _ _ c.adopt_row.ensures.only),
+    )
 
 pub returns-2-clause-tree : goal.returns-2-clause-tree
 returns-2-clause-tree g c =
