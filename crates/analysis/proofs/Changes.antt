@@ -8,7 +8,7 @@ use Rattle.std.proofs.lemmas.Bool.{cases_lt, cases_eq}
 use Rattle.pattern.specs.Forest.{Grows}
 use Rattle.gather.specs.Gatherings.{Gathered}
 use Rattle.analysis.specs.declared.records.Vertex.{Vertex}
-use Rattle.analysis.specs.Tables.{vertex, no_vertex, Only, head_from, parent_from, level_from}
+use Rattle.analysis.specs.Tables.{vertex, no_vertex, Only, parent_from, level_from}
 use Rattle.analysis.specs.Tables.{parent_of, weight_from, tree_from, place_from, at_from, walk_from, reach_from}
 use Rattle.analysis.specs.Tables.{order_from, counts_from}
 
@@ -41,9 +41,6 @@ map_more f xs ys i h l e =
 pub record Takes (mix : Vertex → Vertex → Vertex) : Type 0 where
   pub same : (x : Vertex) → mix x x ≡ x
   pub latest : (x y z : Vertex) → mix (mix x y) z ≡ mix x z
-
-pub head_takes : Takes head_from
-head_takes = record { same = λ _. refl; latest = λ _ _ _. refl }
 
 pub parent_takes : Takes parent_from
 parent_takes = record { same = λ _. refl; latest = λ _ _ _. refl }

@@ -2,8 +2,7 @@
 use Rattle.std.proofs.Common.{◌≡◌, ℕ, suc, ◌+◌, ◌-◌, ◌<◌, ◌≤◌, Bool, true, false, cond, not, ◌&&◌, eqb, List, ◌∷◌, length, get_or, ◌+ℤ◌, ◌-ℤ◌, neg_ℤ, Some, None, Option, unwrap_or, sym, refl, ap, ◌∙◌, subst, ap₂, inl, inr, arith, w64}
 use Rattle.std.specs.Int.{int_wrap}
 use Rattle.std.proofs.lemmas.Int.{int_wrap-add_same}
-use Rattle.std.proofs.lemmas.List.{length-map}
-use Rattle.std.proofs.lemmas.Bool.{cases_Bool, cases_lt, cases_order, ltb-false, cond-true, cond-false, cond_both}
+use Rattle.std.proofs.lemmas.Bool.{cases_Bool, cases_lt, cases_eq, ltb-false, cond-true, cond-false, cond_both}
 use Rattle.std.proofs.lemmas.Bool.Decides.{nat_tests}
 use Rattle.pattern.specs.Patterns.{Pattern, shares}
 use Rattle.pattern.specs.Elimination.{parent}
@@ -14,7 +13,6 @@ use Rattle.pattern.specs.Passes.{happened, last_met, MetUnder, bend_at, one_if, 
 use Rattle.pattern.proofs.Tests as tests
 use Rattle.pattern.proofs.Tree.{parents_grow}
 use Rattle.pattern.proofs.Agree.{grows_agrees}
-use Rattle.pattern.proofs.Entries.{entry_shares, shares_entry}
 use Rattle.pattern.proofs.Places.{place_bounds, place_rises, at_place_vertex, place_at}
 use Rattle.pattern.proofs.Tops.{top_here, top_step, top_at_first, top_at_last}
 use Rattle.pattern.proofs.Passes.{happened_cases, last_more, last_place_more, row_more, row_own}
@@ -27,14 +25,13 @@ use Rattle.sets.specs.Meaning.{Sets, Found, Merged, among, in_use, mergeable}
 use Rattle.analysis.specs.declared.records.End.TheVariants.{Low}
 use Rattle.analysis.specs.declared.records.Entry.{Entry}
 use Rattle.analysis.specs.declared.records.Vertex.{Vertex}
-use Rattle.analysis.specs.Tables.{vertex, no_vertex, parent_of, pairs_of, pair_of, Sound, counts_from, Only}
-use Rattle.analysis.specs.Links.{newest, AllLinked}
+use Rattle.analysis.specs.Tables.{vertex, no_vertex, entry, parent_of, SoundPair, counts_from, Only}
 use Rattle.analysis.specs.Growth.{pattern_of, pattern_in, Fresh}
 use Rattle.analysis.specs.Order.{Forest}
 use Rattle.analysis.specs.Counts.{Prepared, Passed, Ready, Tallied, Counting, TopsAt, TopsAreRoots, SameTops}
 use Rattle.analysis.specs.Counts.{Climbs, meets_at, EntryCounted, is_leaf, EntryPassed}
 use Rattle.analysis.proofs.Tops.{among_true, among_parts}
-use Rattle.analysis.proofs.Chains.{Met, Taken, newest_last, pair_at, sound_at, listed_only}
+use Rattle.analysis.proofs.Slots.{listed_only}
 
 -- a change of counts leaves the tree
 pub ready_only : (p : Pattern) (vs ws : List Vertex) → Only counts_from vs ws → Ready p vs → Ready p ws
@@ -53,7 +50,7 @@ pub prepared_only : (vs ws : List Vertex) (es : List Entry) →
 prepared_only vs ws es long only prepared =
     record {
       few = let f = prepared.few in omega arith;
-      lists = listed_only counts_from (λ _ _. refl) Low vs ws es long only prepared.lists;
+      lists = listed_only counts_from Low (λ _ _. refl) vs ws es long only prepared.lists;
       tree = subst (λ n. Ready (pattern_of n es) ws) long
           (ready_only (pattern_in vs es) vs ws only prepared.tree);
     }
@@ -162,83 +159,62 @@ meets_within s vs u sound from to =
     (λ is. among_parts s.used (s.top (vertex vs u).last) (sound.top_in_use (vertex vs u).last is))
     (λ out. (from, to))
 
--- The vertices before the place of x are counted, and of x the entries from position k on.
-pub record CountingAt (p : Pattern) (x k : ℕ) (vs : List Vertex) : Type 0 where
+-- The vertices before the place of x are counted, and x in the rows of the neighbours in its slots before k.
+pub record CountingAt (p : Pattern) (x : ℕ) (slots : List Entry) (k : ℕ) (vs : List Vertex) : Type 0 where
   pub events : List (ℕ × ℕ)
   pub passing : Passing p events
   pub early : (y w : ℕ) → happened y w events ≡ true → place_of p y ≤ place_of p x
   pub before : (y w : ℕ) → y < w → shares p y w ≡ true → place_of p y ≤ place_of p x - 1 → MetUnder p y w events
-  pub here : (j : ℕ) → k ≤ j → j < length p.entries → (get_or p.entries j (0, 0)).0 ≡ x →
-      MetUnder p x (get_or p.entries j (0, 0)).1 events
+  pub here : (j : ℕ) → j < k → MetUnder p x (entry slots j).upper events
   pub tallied : Tallied p events vs
 
--- at the head of the list
-pub counting_head : (p : Pattern) (x k : ℕ) (vs : List Vertex) →
-    k ≡ newest Low p.entries (length p.entries) x → Counting p (place_of p x - 1) vs → CountingAt p x k vs
-counting_head p x k vs e c =
+pub counting_first : (p : Pattern) (x : ℕ) (slots : List Entry) (vs : List Vertex) →
+    Counting p (place_of p x - 1) vs → CountingAt p x slots 0 vs
+counting_first p x slots vs c =
     record {
       events = c.events;
       passing = c.passing;
       early = λ y w h. let i = c.early y w h in omega arith;
       before = c.all;
-      here = λ j l h i. absurd (newest_last Low p.entries (length p.entries) x j (omega arith) h i);
+      here = λ j h. absurd (omega arith);
       tallied = c.tallied;
     }
 
--- The entry at position k - 1 of the entries: it has x at its lower end, and u at the other.
-pub record AtEntry (p : Pattern) (x u k : ℕ) : Type 0 where
-  pub from : 1 ≤ k
-  pub within : k ≤ length p.entries
-  pub low : (get_or p.entries (k - 1) (0, 0)).0 ≡ x
-  pub high : (get_or p.entries (k - 1) (0, 0)).1 ≡ u
-  pub some : 1 ≤ x
-  pub rises : x < u
-  pub fits : u ≤ p.order
+-- slot k holds u, an upper neighbour of x
+module _ (p : Pattern) (x : ℕ) (slots : List Entry) (k : ℕ) (vs : List Vertex)
+    (pair : SoundPair p.order (x, (entry slots k).upper)) (meet : shares p x (entry slots k).upper ≡ true)
+    (c : CountingAt p x slots k vs) where
+  abbrev u : ℕ
+  u = (entry slots k).upper
 
-module _ (p : Pattern) (x u k : ℕ) (vs : List Vertex) (at : AtEntry p x u k) (c : CountingAt p x k vs) where
   pub event_more : Passing p ((x, u) ∷ c.events)
-  event_more =
-      let a = at.low in
-      let b = at.high in
-      let w = at.within in
-      let r = at.rises in
-      let f = at.from in
-      passing_more p x u c.events c.passing at.rises
-      (subst (λ y. shares p y u ≡ true) a
-      (subst (λ y. shares p (get_or p.entries (k - 1) (0, 0)).0 y ≡ true) b
-      (entry_shares p (k - 1) (omega arith) (let s = at.some in omega arith) (omega arith)
-      (let t = at.fits in omega arith))))
-      (λ y w h. c.early y w h)
+  event_more = passing_more p x u c.events c.passing pair.rises meet (λ y w h. c.early y w h)
 
   new : tests.Vertex p.order x
-  new = let r = at.rises in let f = at.fits in record { named = at.some; fits = omega arith }
+  new = let r = pair.rises in let f = pair.within in record { named = pair.from; fits = omega arith }
 
-  -- on to the next entry of the list, once one in the subtree of x is met as a lower neighbour of u
-  counting_on : (ws : List Vertex) (events : List (ℕ × ℕ)) (next : ℕ) → next ≡ newest Low p.entries (k - 1) x →
+  -- on to the next slot, once one in the subtree of x is met as a lower neighbour of u
+  counting_on : (ws : List Vertex) (events : List (ℕ × ℕ)) →
       Passing p events → ((y w : ℕ) → happened y w events ≡ true → place_of p y ≤ place_of p x) →
       ((y w : ℕ) → MetUnder p y w c.events → MetUnder p y w events) → MetUnder p x u events → Tallied p events ws →
-      CountingAt p x next ws
-  counting_on ws events next e passing early keeps met tallied =
+      CountingAt p x slots (k + 1) ws
+  counting_on ws events passing early keeps met tallied =
       record {
         events = events;
         passing = passing;
         early = early;
         before = λ y w l s h. keeps y w (c.before y w l s h);
-        here = λ j l h i. elim (cases_order j (k - 1)) [
-          | inl same ↦
-              subst (λ w. MetUnder p x w events)
-              (sym (ap (λ m. (get_or p.entries m (0, 0)).1) same ∙ at.high)) met
-          | inr (inl earlier) ↦ absurd (newest_last Low p.entries (k - 1) x j (omega arith) earlier i)
-          | inr (inr later) ↦ keeps x _ (c.here j (omega arith) h i)
+        here = λ j l. elim (cases_eq j k) [
+          | inl same ↦ subst (λ m. MetUnder p x (entry slots m).upper events) (sym same) met
+          | inr ne ↦ keeps x _ (c.here j (omega arith))
         ];
         tallied = tallied;
       }
 
   -- x itself is
-  counting_leaf : (ws : List Vertex) (next : ℕ) → next ≡ newest Low p.entries (k - 1) x →
-      Tallied p ((x, u) ∷ c.events) ws → CountingAt p x next ws
-  counting_leaf ws next e tallied =
-      counting_on ws ((x, u) ∷ c.events) next e event_more
+  counting_leaf : (ws : List Vertex) → Tallied p ((x, u) ∷ c.events) ws → CountingAt p x slots (k + 1) ws
+  counting_leaf ws tallied =
+      counting_on ws ((x, u) ∷ c.events) event_more
       (λ y w h. elim (happened_cases x u c.events y w h) [
         | inl same ↦ subst (λ z. place_of p z ≤ place_of p x) same.0 (omega arith)
         | inr older ↦ c.early y w older
@@ -249,73 +225,45 @@ module _ (p : Pattern) (x u k : ℕ) (vs : List Vertex) (at : AtEntry p x u k) (
   not_leaf : Ready p vs → is_leaf vs x u ≡ false → MetUnder p x u c.events
   not_leaf ready out =
       let first = ready.firsts x new.named new.fits in
-      let r = at.rises in
-      let last = c.tallied.mets u (omega arith) at.fits in
+      let r = pair.rises in
+      let last = c.tallied.mets u (omega arith) pair.within in
       let le = ltb-false (vertex vs u).met (vertex vs x).first.0 out in
       under_last p x u c.events c.passing new c.early (omega arith)
 
-  -- on to the next entry once u is passed as a neighbour of x
-  pub counting_next : (s : Sets) (ws : List Vertex) (next : ℕ) → next ≡ newest Low p.entries (k - 1) x → Ready p vs →
-      TopsAt p (place_of p x - 1) s → EntryPassed x u (meets_at s vs u) vs ws → CountingAt p x next ws
-  counting_next s ws next e ready tops passed =
+  -- on to the next slot once u is passed as a neighbour of x
+  pub counting_next : (s : Sets) (ws : List Vertex) → Ready p vs → TopsAt p (place_of p x - 1) s →
+      EntryPassed x u (meets_at s vs u) vs ws → CountingAt p x slots (k + 1) ws
+  counting_next s ws ready tops passed =
       elim (cases_Bool (is_leaf vs x u)) [
         | inl is ↦
-            counting_leaf ws next e
-            (tallied_more p vs s x u c.events ready c.tallied tops event_more ws (passed.leaf is))
+            counting_leaf ws (tallied_more p vs s x u c.events ready c.tallied tops event_more ws (passed.leaf is))
         | inr out ↦
-            counting_on ws c.events next e c.passing c.early (λ _ _ met. met) (not_leaf ready out)
+            counting_on ws c.events c.passing c.early (λ _ _ met. met) (not_leaf ready out)
             (subst (Tallied p c.events) (sym (passed.other out)) c.tallied)
       ]
 
--- at the end of the list all entries of x are counted
-pub counting_end : (p : Pattern) (x : ℕ) (vs : List Vertex) → 1 ≤ x → x ≤ p.order → Sound p.order p.entries →
-    CountingAt p x 0 vs → Counting p (place_of p x) vs
-counting_end p x vs low high sound c =
+-- when no slot is left x is counted in all of its rows
+pub counting_last : (p : Pattern) (x : ℕ) (slots : List Entry) (k : ℕ) (vs : List Vertex) → 1 ≤ x → x ≤ p.order →
+    k ≡ length slots →
+    ((u : ℕ) → x < u → shares p x u ≡ true → (j : ℕ) × (j < length slots) × ((entry slots j).upper ≡ u)) →
+    CountingAt p x slots k vs → Counting p (place_of p x) vs
+counting_last p x slots k vs low high last slot_for c =
     let b = place_bounds p.order (parent p) (parents_grow p) x (record { named = low; fits = high }) in
-    let k = place_of p x - 1 in
-    let e : place_of p x ≡ suc k = omega arith in
+    let t = place_of p x - 1 in
+    let e : place_of p x ≡ suc t = omega arith in
     record {
       events = c.events;
       passing = c.passing;
       early = c.early;
-      all = subst (λ t. MetTo p t c.events) (sym e)
-          (met_to_next p k x c.events low high e c.before own);
+      all = subst (λ m. MetTo p m c.events) (sym e)
+          (met_to_next p t x c.events low high e c.before own);
       tallied = c.tallied;
     }
   where
     own : (u : ℕ) → x < u → shares p x u ≡ true → MetUnder p x u c.events
     own u l s =
-        let (j, fits, first, second) = shares_entry p (λ i h. (sound i h).rises) x u l s in
-        subst (λ w. MetUnder p x w c.events) second (c.here j (omega arith) fits first)
-
-pub head_newest : (n : ℕ) (vs : List Vertex) (es : List Entry) (x : ℕ) → AllLinked Low n vs es → 1 ≤ x → x ≤ n →
-    (vertex vs x).head ≡ newest Low (pairs_of es) (length (pairs_of es)) x
-head_newest n vs es x l from to =
-    l.heads x from to ∙ ap (λ m. newest Low (pairs_of es) m x) (sym (length-map es pair_of))
-
--- the entry taken from the list of x
-pub at_entry : (n : ℕ) (es : List Entry) (x k q : ℕ) (e : Entry) → Sound n (pairs_of es) → Met Low n es x k →
-    Taken es k e q → AtEntry (pattern_of n es) x e.high k
-at_entry n es x k q e sound met taken =
-    let w = met.within in
-    let from = taken.some in
-    let l = length-map es pair_of in
-    let at = pair_at es (pairs_of es) (k - 1) refl (omega arith) in
-    let s = sound_at n es (k - 1) sound (omega arith) in
-    let m = met.ends (k - 1) (omega arith) in
-    let r = s.rises in
-    let f = s.from in
-    let t = s.within in
-    let i = ap (λ y. y.high) taken.is in
-    record {
-      from = from;
-      within = omega arith;
-      low = sym (ap (λ y. y.0) at) ∙ m;
-      high = sym (ap (λ y. y.1) at) ∙ sym i;
-      some = omega arith;
-      rises = omega arith;
-      fits = omega arith;
-    }
+        let (j, fits, is) = slot_for u l s in
+        subst (λ w. MetUnder p x w c.events) is (c.here j (omega arith))
 
 -- the tops: as they begin, after a find, after a merge, and at the end
 pub tops_first : (p : Pattern) (s : Sets) → Fresh p.order s → TopsAt p 0 s

@@ -1,5 +1,6 @@
 pub mod Changes
-pub mod Chains
+pub mod CountingSort
+pub mod Slots
 pub mod Passes
 pub mod Gathers
 pub mod Orders

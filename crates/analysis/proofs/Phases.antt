@@ -1,16 +1,22 @@
--- The phases of an analysis put together: what one leaves, the later ones keep. Linking the entries anew keeps their
--- pairs, so the pattern is the same throughout.
-use Rattle.std.proofs.Common.{◌≡◌, ℕ, ◌+◌, ◌-◌, ◌≤◌, List, ◌++◌, length, sym, ap, ◌∙◌, subst, ap₂, arith}
+-- The phases of an analysis put together: what one leaves, the later ones keep. Listing the neighbours keeps the pairs
+-- of the entries, so the pattern is the same throughout.
+use Rattle.std.proofs.Common.{◌≡◌, ℕ, ◌+◌, ◌-◌, ◌≤◌, List, take, ◌++◌, length, refl, sym, ap, ◌∙◌, subst, ap₂, arith}
+use Rattle.std.proofs.Math.Seq.{take-append_seam}
 use Rattle.std.proofs.lemmas.List.{get_or_append_left}
 use Rattle.pattern.specs.Patterns.{Pattern}
 use Rattle.pattern.specs.Analysis.{height_of}
 use Rattle.analysis.specs.declared.records.Entry.{Entry}
+use Rattle.analysis.specs.declared.records.End.{End}
+use Rattle.analysis.specs.declared.records.End.TheVariants.{Low, High}
 use Rattle.analysis.specs.declared.records.Vertex.{Vertex}
-use Rattle.analysis.specs.Tables.{vertex, no_vertex, pairs_of, Only, order_from, head_from, counts_from}
+use Rattle.analysis.specs.Tables.{vertex, no_vertex, pairs_of, slots_end, slots_from, Only, OnlySlots, neighbour}
+use Rattle.analysis.specs.Tables.{parent_from, order_from, counts_from}
+use Rattle.analysis.specs.Pools.{Listed}
 use Rattle.analysis.specs.Growth.{pattern_of, pattern_in, Tree}
 use Rattle.analysis.specs.Order.{ParentsOf, OrderedAs}
 use Rattle.analysis.specs.Counts.{Ready, Counted}
 use Rattle.analysis.specs.Analysed.{Answered}
+use Rattle.analysis.proofs.Slots.{listed_kept, listed_only}
 
 -- entries with the same pairs make up the same pattern
 pub same_pattern : (n m : ℕ) (es fs : List Entry) → m ≡ n → pairs_of fs ≡ pairs_of es → pattern_of m fs ≡ pattern_of n es
@@ -21,30 +27,17 @@ pub record Settled (p : Pattern) (vs : List Vertex) : Type 0 where
   pub tree : Tree p vs
   pub order : OrderedAs p vs
 
--- So it is of the entries linked by their higher ends, and then by their lower ends, and of the vertices linked so
--- first, once the tree is grown, once they are in order, and once they are linked anew.
-pub settled : (fs gs : List Entry) (begun grown ordered listed : List Vertex) →
-    length begun ≡ length listed → length grown ≡ length listed → pairs_of gs ≡ pairs_of fs →
-    Tree (pattern_in begun fs) grown → ((p : Pattern) → ParentsOf p (length grown) grown → OrderedAs p ordered) →
-    Only order_from grown ordered → Only head_from ordered listed → Settled (pattern_in listed gs) listed
-settled fs gs begun grown ordered listed long wide same tree order a b =
-    let p = pattern_in listed gs in
-    let parents : Tree p grown =
-    subst (λ q. Tree q grown) (sym (same_pattern (length begun) (length listed) fs gs (sym long) same)) tree in
-    let own = order p (record { order = wide; parents = λ v q r. parents.parents v q (omega arith) }) in
+-- So it is once the tree is grown of vertices that are pooled, and they are in order.
+pub settled : (es : List Entry) (pooled grown ordered : List Vertex) →
+    length pooled ≡ length ordered → length grown ≡ length ordered → Tree (pattern_in pooled es) grown →
+    ((p : Pattern) → ParentsOf p (length grown) grown → OrderedAs p ordered) → Only order_from grown ordered →
+    Settled (pattern_in ordered es) ordered
+settled es pooled grown ordered long wide tree order only =
+    let p = pattern_in ordered es in
+    let parents : Tree p grown = subst (λ n. Tree (pattern_of n es) grown) long tree in
     record {
-      tree = record {
-        parents = λ v q r. ap (λ x. x.parent) (b v) ∙ ap (λ x. x.parent) (a v) ∙ parents.parents v q r;
-      };
-      order = record {
-        levels = λ v q r. ap (λ x. x.level) (b v) ∙ own.levels v q r;
-        places = λ v q r. ap (λ x. x.place) (b v) ∙ own.places v q r;
-        walk = λ k q r. ap (λ x. x.at) (b k) ∙ own.walk k q r;
-        firsts = λ v q r. ap (λ x. x.first.0) (b v) ∙ own.firsts v q r;
-        heights = λ v q r.
-            ap (λ l. l + height_of p v) (ap (λ x. x.level) (b v)) ∙ own.heights v q r
-            ∙ sym (ap (λ x. x.deepest.0) (b v));
-      };
+      tree = record { parents = λ v q r. ap (λ x. x.parent) (only v) ∙ parents.parents v q r };
+      order = order p (record { order = wide; parents = λ v q r. parents.parents v q (omega arith) });
     }
 
 -- then all is ready to be counted
@@ -90,3 +83,37 @@ module _ (p : Pattern) (vs rest : List Vertex) (long : p.order ≤ length vs) wh
     rows = λ v some fits. front_same (λ x. x.rows) v some fits ∙ answers.rows v some fits;
     columns = λ v some fits. front_same (λ x. x.weight.0) v some fits ∙ answers.columns v some fits;
   }
+
+-- Lists by the high ends stay while those by the low ends are made.
+pub lower_kept : (vs ws : List Vertex) (es fs : List Entry) → length vs ≡ length ws → pairs_of fs ≡ pairs_of es →
+    Only (slots_from Low) vs ws → OnlySlots Low es fs → Listed High vs es → Listed High ws fs
+lower_kept vs ws es fs tall pairs only slots =
+    listed_kept High vs ws es fs tall pairs (λ v. ap (slots_end High) (only v)) (λ k. ap (neighbour High) (slots k))
+
+parents_keep : (which : End) (x y : Vertex) → slots_end which (parent_from x y) ≡ slots_end which x
+parents_keep Low x y = refl
+parents_keep High x y = refl
+
+order_keeps : (which : End) (x y : Vertex) → slots_end which (order_from x y) ≡ slots_end which x
+order_keeps Low x y = refl
+order_keeps High x y = refl
+
+counts_keep : (which : End) (x y : Vertex) → slots_end which (counts_from x y) ≡ slots_end which x
+counts_keep Low x y = refl
+counts_keep High x y = refl
+
+-- and both stay through the phases
+pub listed_ordered : (which : End) (es : List Entry) (pooled grown ordered : List Vertex) →
+    length pooled ≡ length grown → length grown ≡ length ordered → Only parent_from pooled grown →
+    Only order_from grown ordered → Listed which pooled es → Listed which ordered es
+listed_ordered which es pooled grown ordered tall wide a b l =
+    listed_only order_from which (order_keeps which) grown ordered es wide b
+    (listed_only parent_from which (parents_keep which) pooled grown es tall a l)
+
+-- to stand for the front of the whole table
+pub listed_front : (which : End) (n : ℕ) (es : List Entry) (ordered counted rest : List Vertex) →
+    length ordered ≡ length counted → n ≡ length counted → Only counts_from ordered counted →
+    Listed which ordered es → Listed which (take n (counted ++ rest)) es
+listed_front which n es ordered counted rest long front only l =
+    subst (λ vs. Listed which vs es) (sym (ap (λ i. take i (counted ++ rest)) front ∙ take-append_seam counted rest))
+    (listed_only counts_from which (counts_keep which) ordered counted es long only l)

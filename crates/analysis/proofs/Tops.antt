@@ -1,13 +1,11 @@
 -- Ancestor sets and the parents they give: what a find and a merge come to, and the rows by which the trees grow.
-use Rattle.std.proofs.Common.{◌≡◌, ℕ, ◌-◌, ◌<◌, ◌≤◌, Bool, true, cond, eqb, ◌≢◌, List, map, length, set, Some, None, Option, sym, refl, ap, ◌∙◌, subst, inl, inr, arith}
-use Rattle.std.proofs.lemmas.List.{length-map}
-use Rattle.std.proofs.lemmas.Bool.{cases_eq, cases_lt, ne_eqb, eq-eqb, cond-true, cond-false}
+use Rattle.std.proofs.Common.{◌≡◌, ℕ, ◌+◌, ◌-◌, ◌<◌, ◌≤◌, Bool, true, cond, eqb, ◌≢◌, List, map, length, set, Some, None, Option, sym, refl, ap, ◌∙◌, subst, inl, inr, arith}
+use Rattle.std.proofs.lemmas.Bool.{cases_eq, ne_eqb, eq-eqb, cond-true, cond-false}
 use Rattle.std.proofs.lemmas.Bool.Decides.{nat_tests}
 use Rattle.pattern.specs.Patterns.{Pattern, shares}
 use Rattle.pattern.specs.Forest.{Grows}
 use Rattle.pattern.specs.Crowns.{AfterRows, InRow, Adopts}
 use Rattle.pattern.proofs.Tree.{parents_grow}
-use Rattle.pattern.proofs.Entries.{entry_shares, shares_entry}
 use Rattle.pattern.proofs.Crowns.{adopts_none, adopts_one, adopts_taken, adopts_keeps}
 use Rattle.pattern.proofs.Crowns.{rows_start, row_begin, row_step, row_end, rows_end, rows_end_tops}
 use Rattle.sets.specs.Meaning.{Sets, Sound, Found, Merged, among, mergeable}
@@ -17,11 +15,11 @@ use Rattle.analysis.specs.declared.records.Vertex.{Vertex}
 use Rattle.analysis.specs.Tables as tables
 use Rattle.analysis.specs.Tables.{entry, pair_of, pairs_of, vertex, no_vertex, parent_of}
 use Rattle.analysis.specs.Tables.{with_parent, parent_from, Only}
-use Rattle.analysis.specs.Links.{Linked, AllLinked}
+use Rattle.analysis.specs.Pools.{Neighbours}
 use Rattle.analysis.specs.Growth.{pattern_of, pattern_in, Fresh, alone, Adopted, adopted, Tree, Rooted}
 use Rattle.analysis.specs.Order.{AllWeighOne}
 use Rattle.analysis.proofs.Changes.{vertex_same, vertex_other, parent_takes, only_none, only_set, vertex_map}
-use Rattle.analysis.proofs.Chains.{Met, Taken, met_head, met_link, head_last, link_last, pair_at, sound_at, lower_at}
+use Rattle.analysis.proofs.Slots.{slot_sound, slot_shares, slot_for}
 
 pub among_true : (m v : ℕ) → 1 ≤ v → v ≤ m → among m v ≡ true
 among_true m v p q = grind (arith, nat_tests)
@@ -114,74 +112,53 @@ adoption n x u s t vs ws put is some fits =
           (λ v p _. parent_adopted (s.top x) u vs ws is ne some fits v p) (λ y _ _. put.tops y)
     ]
 
--- Row u done as far as position k of the list of u: what comes before k on the list, its newer part, is adopted.
-pub record RowAt (n : ℕ) (es : List Entry) (u k : ℕ) (P T : ℕ → ℕ) : Type 0 where
-  pub met : Met High n es u k
+-- Row u done as far as slot k: the neighbours in the slots before it are adopted.
+pub record RowAt (n : ℕ) (es : List Entry) (u : ℕ) (slots : List Entry) (k : ℕ) (P T : ℕ → ℕ) : Type 0 where
   pub in_row : InRow (pattern_of n es) (u - 1) u P T
-  pub taken : (j : ℕ) → k ≤ j → j < length es → (entry es j).high ≡ u → T (entry es j).low ≡ u
+  pub taken : (j : ℕ) → j < k → T (entry slots j).lower ≡ u
 
-module _ (n : ℕ) (es : List Entry) (u k : ℕ) (sound : tables.Sound n (pairs_of es)) where
-  met_shares : Met High n es u k → 1 ≤ k → shares (pattern_of n es) (entry es (k - 1)).low u ≡ true
-  met_shares met some =
-      let b = met.within in
-      let l = length-map es pair_of in
-      let s = sound (k - 1) (omega arith) in
-      let at = pair_at es (pairs_of es) (k - 1) refl (omega arith) in
-      let h = entry_shares (pattern_of n es) (k - 1) (omega arith) s.from s.rises s.within in
-      subst (λ w. shares (pattern_of n es) (entry es (k - 1)).low w ≡ true) (met.ends (k - 1) (omega arith))
-      (subst (λ q. shares (pattern_of n es) q.0 q.1 ≡ true) (sym at) h)
+pub row_at_first : (n : ℕ) (es : List Entry) (u : ℕ) (slots : List Entry) (P T : ℕ → ℕ) → 1 ≤ u →
+    AfterRows (pattern_of n es) (u - 1) P T → RowAt n es u slots 0 P T
+row_at_first n es u slots P T some after =
+    record {
+      in_row = row_begin (pattern_of n es) (u - 1) u P T (omega arith) after;
+      taken = λ j h. absurd (omega arith);
+    }
 
-  -- the row begins at the head of the list
-  pub row_at_head : (vs : List Vertex) (P T : ℕ → ℕ) → Linked High n (pairs_of es) (length es) vs es →
-      1 ≤ u → u ≤ n → k ≡ (vertex vs u).head → AfterRows (pattern_of n es) (u - 1) P T → RowAt n es u k P T
-  row_at_head vs P T linked some fits is after =
+-- the slots hold the lower neighbours of u
+module _ (n : ℕ) (es : List Entry) (u : ℕ) (slots : List Entry) (fits : u ≤ n) (sound : tables.Sound n (pairs_of es))
+    (list : Neighbours High (pairs_of es) u slots) where
+  -- the one in slot k is adopted
+  pub row_at_next : (k x : ℕ) (P T P' T' : ℕ → ℕ) → k < length slots → x ≡ (entry slots k).lower →
+      RowAt n es u slots k P T → Adopts n x u P T P' T' → RowAt n es u slots (k + 1) P' T'
+  row_at_next k x P T P' T' h is row adopts =
+      let s = slot_sound High n es u slots sound list k h in
+      let r = s.rises in
+      let f = s.from in
       record {
-        met = subst (Met High n es u) (sym is) (met_head High n vs es u linked some fits);
-        in_row = row_begin (pattern_of n es) (u - 1) u P T (omega arith) after;
-        taken = λ j past h e. absurd (head_last High n vs es u linked some fits j (omega arith) h e);
+        in_row = row_step (pattern_of n es) (u - 1) u x P T P' T' (omega arith)
+            (subst (λ y. shares (pattern_of n es) y u ≡ true) (sym is) (slot_shares High n es u slots sound list k h))
+            row.in_row adopts;
+        taken = λ j l. elim (cases_eq j k) [
+          | inl i ↦
+              ap (λ m. T' (entry slots m).lower) i ∙ ap T' (sym is)
+              ∙ adopts_taken n x u P T P' T' adopts (omega arith) (omega arith)
+          | inr ne ↦
+              let t = slot_sound High n es u slots sound list j (omega arith) in
+              let a = t.rises in
+              adopts_keeps n x u P T P' T' adopts (entry slots j).lower t.from (omega arith) (row.taken j (omega arith))
+        ];
       }
 
-  -- the entry at position k is adopted: on to its link
-  module _ (vs : List Vertex) (P T P' T' : ℕ → ℕ) (e : Entry) (q : ℕ) (linked : AllLinked High n vs es) (fits : u ≤ n)
-      (row : RowAt n es u k P T) (taken : Taken es k e q) (adopts : Adopts n e.low u P T P' T') where
-    low : (1 ≤ e.low) × (e.low < u)
-    low = lower_at n es u k q e sound row.met taken
-
-    taken_shares : shares (pattern_of n es) e.low u ≡ true
-    taken_shares = subst (λ x. shares (pattern_of n es) x.low u ≡ true) (sym taken.is) (met_shares row.met taken.some)
-
-    here : T' (entry es (k - 1)).low ≡ u
-    here = ap (λ x. T' x.low) (sym taken.is) ∙ adopts_taken n e.low u P T P' T' adopts low.0 (omega (arith, low.1, fits))
-
-    pub row_at_link : RowAt n es u q P' T'
-    row_at_link =
-        record {
-          met = met_link High n vs es u k q e linked row.met taken;
-          in_row = row_step (pattern_of n es) (u - 1) u e.low P T P' T' low.1 taken_shares row.in_row adopts;
-          taken = λ j past h f. elim (cases_lt j (k - 1)) [
-            | inl older ↦ absurd (link_last High n vs es u k q e linked row.met taken j past older f)
-            | inr at ↦ elim (cases_eq j (k - 1)) [
-              | inl i ↦ ap (λ m. T' (entry es m).low) i ∙ here
-              | inr newer ↦
-                  let s = sound_at n es j sound h in
-                  adopts_keeps n e.low u P T P' T' adopts (entry es j).low s.from (omega (arith, s.rises, s.within))
-                  (row.taken j (omega arith) h f)
-            ]
-          ];
-        }
-
-  -- no position is left: the row is done
-  pub row_at_none : (P T : ℕ → ℕ) → k ≡ 0 → RowAt n es u k P T → AfterRows (pattern_of n es) u P T
-  row_at_none P T none row = row_end (pattern_of n es) (u - 1) u P T row.in_row all
+  -- no slot is left: the row is done
+  pub row_at_last : (k : ℕ) (P T : ℕ → ℕ) → k ≡ length slots → RowAt n es u slots k P T →
+      AfterRows (pattern_of n es) u P T
+  row_at_last k P T last row = row_end (pattern_of n es) (u - 1) u P T row.in_row all
     where
       all : (x : ℕ) → x < u → shares (pattern_of n es) x u ≡ true → T x ≡ u
       all x less s =
-          let (j, h, first, second) = shares_entry (pattern_of n es) (λ i f. (sound i f).rises) x u less s in
-          let l = length-map es pair_of in
-          let fits : j < length es = omega arith in
-          let at = pair_at es (pairs_of es) j refl fits in
-          ap T (sym (ap (λ q. q.0) at ∙ first)) ∙
-          row.taken j (omega arith) fits (ap (λ q. q.1) at ∙ second)
+          let (j, h, is) = slot_for High n es u slots sound list x less s in
+          ap T (sym is) ∙ row.taken j (omega arith)
 
 -- no row is done, and all are roots
 -- every vertex is alone at first, and keeps its weight then

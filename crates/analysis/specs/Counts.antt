@@ -14,7 +14,7 @@ use Rattle.analysis.specs.declared.records.Entry.{Entry}
 use Rattle.analysis.specs.declared.records.Vertex.{Vertex}
 use Rattle.analysis.specs.declared.records.End.TheVariants.{Low}
 use Rattle.analysis.specs.Tables.{vertex, parent_of, with_weight, with_rows, with_last, with_met, Only, weight_from}
-use Rattle.analysis.specs.Links.{Listed}
+use Rattle.analysis.specs.Pools.{Listed}
 use Rattle.analysis.specs.Growth.{pattern_in}
 
 -- the place of x in the walk of the pattern
@@ -29,7 +29,7 @@ pub record Ready (p : Pattern) (vs : List Vertex) : Type 0 where
   pub firsts : (v : ℕ) → 1 ≤ v → v ≤ p.order → (vertex vs v).first.0 ≡ first_place_of p v
   pub walk : (k : ℕ) → 1 ≤ k → k ≤ p.order → (vertex vs k).at ≡ at_place p.order (parent p) k
 
--- what counting begins with: the entries are linked by their low ends, and the table, not a long one, has the tree
+-- what counting begins with: each vertex's upper neighbours are listed, and the table, not a long one, has the tree
 pub record Prepared (vs : List Vertex) (es : List Entry) : Type 0 where
   pub few : length vs ≤ 16384
   pub lists : Listed Low vs es

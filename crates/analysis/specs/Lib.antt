@@ -1,5 +1,5 @@
 pub mod Tables
-pub mod Links
+pub mod Pools
 pub mod Growth
 pub mod Order
 pub mod Counts

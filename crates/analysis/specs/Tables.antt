@@ -1,5 +1,5 @@
 -- How the tables of an analysis are read, a vertex by its number from 1 and an entry by its position from 0, and how
--- they change: one field of one record, or that field of any.
+-- they change: one field of one record, or that field of any. A slot is a working field of an entry, by its position.
 use Rattle.std.specs.Prelude.{◌≡◌, ℕ, ◌-◌, ◌<◌, ◌≤◌, List, map, length, pos, slice_index_or}
 use Rattle.gather.specs.declared.kinds.Weight.{Weight}
 use Rattle.gather.specs.declared.kinds.LeastPlace.{LeastPlace}
@@ -11,7 +11,7 @@ use Rattle.analysis.specs.declared.records.End.TheVariants.{Low, High}
 use Rattle.analysis.specs.declared.records.Vertex.{Vertex}
 
 abbrev pub no_entry : Entry
-no_entry = record { low = 0; high = 0; link = 0 }
+no_entry = record { low = 0; high = 0; lower = 0; upper = 0 }
 
 abbrev pub no_vertex : Vertex
 no_vertex =
@@ -23,7 +23,8 @@ no_vertex =
       deepest = greatest_level 0;
       rows = 0;
       weight = weight (pos 0);
-      head = 0;
+      lower_end = 0;
+      upper_end = 0;
       last = 0;
       met = 0;
       at = 0;
@@ -66,8 +67,18 @@ abbrev pub end_of : End → (ℕ × ℕ) → ℕ
 end_of Low e = e.0
 end_of High e = e.1
 
-abbrev pub with_link : Entry → ℕ → Entry
-with_link e l = record e { link = l }
+abbrev pub opposite : End → End
+opposite Low = High
+opposite High = Low
+
+-- The neighbour in a slot: lists by the high ends are of lower neighbours, and those by the low ends of upper ones.
+abbrev pub neighbour : End → Entry → ℕ
+neighbour Low slot = slot.upper
+neighbour High slot = slot.lower
+
+abbrev pub with_neighbour : End → Entry → ℕ → Entry
+with_neighbour Low slot x = record slot { upper = x }
+with_neighbour High slot x = record slot { lower = x }
 
 abbrev pub with_parent : Vertex → ℕ → Vertex
 with_parent x y = record x { parent = y }
@@ -93,8 +104,14 @@ with_rows x y = record x { rows = y }
 abbrev pub with_weight : Vertex → Weight → Vertex
 with_weight x y = record x { weight = y }
 
-abbrev pub with_head : Vertex → ℕ → Vertex
-with_head x y = record x { head = y }
+-- where the slots of a vertex end, in the lists by that end
+abbrev pub slots_end : End → Vertex → ℕ
+slots_end Low x = x.upper_end
+slots_end High x = x.lower_end
+
+abbrev pub with_slots_end : End → Vertex → ℕ → Vertex
+with_slots_end Low x y = record x { upper_end = y }
+with_slots_end High x y = record x { lower_end = y }
 
 abbrev pub with_last : Vertex → ℕ → Vertex
 with_last x y = record x { last = y }
@@ -109,9 +126,9 @@ with_at x y = record x { at = y }
 abbrev pub Only : (Vertex → Vertex → Vertex) → List Vertex → List Vertex → Type 0
 Only mix before after = (v : ℕ) → vertex after v ≡ mix (vertex before v) (vertex after v)
 
--- x, with the head of y, and so on
-abbrev pub head_from : Vertex → Vertex → Vertex
-head_from x y = with_head x y.head
+-- x, with the end of the slots of y, and so on
+abbrev pub slots_from : End → Vertex → Vertex → Vertex
+slots_from which x y = with_slots_end which x (slots_end which y)
 
 abbrev pub parent_from : Vertex → Vertex → Vertex
 parent_from x y = with_parent x y.parent
@@ -139,10 +156,16 @@ reach_from x y = with_reach x (y.first, y.deepest)
 abbrev pub counts_from : Vertex → Vertex → Vertex
 counts_from x y = with_met (with_last (with_weight (with_rows x y.rows) y.weight) y.last) y.met
 
--- x, with all but the parent, the head, the row count and the place met last of y
+-- x, with all but the parent, the ends of the slots, the row count and the place met last of y
 abbrev pub order_from : Vertex → Vertex → Vertex
-order_from x y = with_met (with_rows (with_head (with_parent y x.parent) x.head) x.rows) x.met
+order_from x y =
+    with_met (with_rows (slots_from Low (slots_from High (with_parent y x.parent) x) x) x.rows) x.met
 
 -- the same, but for the weight
 abbrev pub walk_from : Vertex → Vertex → Vertex
 walk_from x y = with_weight (order_from x y) x.weight
+
+-- Of the entries nothing but the slots of the lists by that end has changed.
+abbrev pub OnlySlots : End → List Entry → List Entry → Type 0
+OnlySlots which before after =
+    (k : ℕ) → entry after k ≡ with_neighbour which (entry before k) (neighbour which (entry after k))

@@ -10,7 +10,8 @@ ghost use Rattle.analysis.specs.Counts.{place_in, Prepared, Counted, Counting, P
 ghost use Rattle.analysis.specs.Counts.{uncounted, weighed, child_taken, ChildrenTaken};
 ghost use Rattle.analysis.specs.Counts.{Climbs, lengthened, meets_at, EntryCounted, is_leaf, EntryPassed, column_of};
 
-use crate::records::{Entry, Vertex};
+use crate::neighbours::neighbours;
+use crate::records::{End, Entry, Vertex};
 use gather::gathering::gather;
 use gather::joining::Joining;
 use gather::kinds::Weight;
@@ -135,8 +136,8 @@ fn count_neighbours<S: AncestorSets>(
     ensures only { Only counts_from vertices.old vertices.new }
     ensures tops { SameTops (S.meaning sets.old) (S.meaning sets.new) }
 {
-    for entry in vertices[x as usize - 1].neighbours(entries) {
-        count_entry(x, entry.high, vertices, sets);
+    for slot in neighbours(End::Low, x, vertices, entries) {
+        count_entry(x, slot.upper as u32, vertices, sets);
     }
 }
 

@@ -7,10 +7,10 @@ ghost use Rattle.analysis.specs.Tables.{pairs_of, Sound};
 ghost use Rattle.analysis.specs.Analysed.{Refused, Analysed};
 
 pub mod counts;
-pub mod links;
 pub mod neighbours;
 pub mod nodes;
 pub mod order;
+pub mod pools;
 pub mod records;
 pub mod settling;
 #[cfg(test)]
@@ -18,8 +18,8 @@ mod tests;
 pub mod tree;
 
 use crate::counts::{count, total};
-use crate::links::link_by;
 use crate::order::order as set_in_order;
+use crate::pools::pool_by;
 use crate::records::{End, Entry, Vertex};
 use crate::tree::grow;
 use sets::{AncestorSets, NoRoom};
@@ -48,10 +48,10 @@ pub fn analyse<S: AncestorSets>(
 {
     sets.start(n)?;
     let vertices = &mut vertices[..n as usize];
-    link_by(End::High, vertices, entries);
+    pool_by(End::High, vertices, entries);
+    pool_by(End::Low, vertices, entries);
     grow(vertices, entries, sets);
     set_in_order(vertices);
-    link_by(End::Low, vertices, entries);
     sets.start(n).unwrap();
     count(vertices, entries, sets);
     Ok(total(vertices))

@@ -1,48 +1,30 @@
-// A walk along a neighbour list, from the newest entry to the oldest.
-ghost use Rattle.std.specs.Prelude.{◌≡◌, ◌≤◌, length};
-ghost use Rattle.std.specs.Iterator.{at_most};
-ghost use Rattle.analysis.specs.Links.{Falling, Follows};
+// The neighbours of a vertex: its slots, as one slice.
+ghost use Rattle.std.specs.Prelude.{◌≡◌};
+ghost use Rattle.analysis.specs.Tables.{pairs_of, Has};
+ghost use Rattle.analysis.specs.Pools.{Listed, Neighbours, slots_begin};
 
-use crate::records::{Entry, Vertex};
+use crate::records::{End, Entry, Vertex};
 
-// The entries of a list that are still to come: that at the 1-based position `at`, and those it is linked to.
-#[derive(Drop)]
-pub struct Neighbours<'a> {
-    entries: &'a [Entry],
-    // 0 at the end, as in the links.
-    at: u32,
-    ghost within: { at ≤ length entries.now },
-    ghost falls: { Falling entries.now },
-}
-
-impl<'a> Iterator for Neighbours<'a> {
-    type Item = Entry;
-
-    ghost next_gives = { λ s r t. Follows s.entries.now s.at r t.entries.now t.at };
-
-    ghost remaining = { λ s. at_most s.at };
-
-    fn next(&mut self) -> Option<Entry> {
-        if self.at == 0 {
-            return None;
-        }
-        let entry = self.entries[self.at as usize - 1];
-        self.at = entry.link;
-        Some(entry)
+// Where the slots of v begin: where those of the vertex before end.
+fn slots_begin(which: End, v: u32, vertices: &[Vertex]) -> u32
+    requires { Has vertices.now v }
+    ensures { result ≡ slots_begin which vertices.now v }
+{
+    if v == 1 {
+        0
+    } else {
+        vertices[v as usize - 2].slots_end(which)
     }
 }
 
-impl Vertex {
-    // The entries of the vertex's list.
-    pub fn neighbours<'a>(&self, entries: &'a [Entry]) -> Neighbours<'a>
-        requires within { self.now.head ≤ length entries.now }
-        requires falls { Falling entries.now }
-        ensures entries { result.entries.now ≡ entries.now }
-        ensures at { result.at ≡ self.now.head }
-    {
-        Neighbours {
-            entries,
-            at: self.head,
-        }
-    }
+// The slots of v in the lists by that end: by the high ends `lower` of each is a lower neighbour, and by the low ends
+// `upper` is an upper one.
+pub fn neighbours<'a>(which: End, v: u32, vertices: &[Vertex], entries: &'a [Entry]) -> &'a [Entry]
+    requires has { Has vertices.now v }
+    requires lists { Listed which vertices.now entries.now }
+    ensures { Neighbours which (pairs_of entries.now) v result.now }
+{
+    let begin = slots_begin(which, v, vertices) as usize;
+    let end = vertices[v as usize - 1].slots_end(which) as usize;
+    &entries[begin..end]
 }

@@ -1,18 +1,19 @@
 // The records of the two tables that an analysis works on: one for each vertex and one for each entry of the pattern.
-// Numbers count from 1 and 0 is none, as in the theorems' trees; an `Option` would widen the fixed tables. The lists
-// are links by position, since nothing is allocated.
+// Numbers count from 1 and 0 is none, as in the theorems' trees; an `Option` would widen the fixed tables. Neighbour
+// lists stand in working fields of the records, since nothing is allocated.
 ghost use Rattle.std.specs.Prelude.{◌≡◌};
 ghost use Rattle.analysis.specs.Tables.{no_entry, no_vertex};
 
 use gather::kinds::{GreatestLevel, LeastPlace, Weight};
 
-// An entry of the pattern, low < high. The link is working storage: the 1-based position of the next entry of a
-// neighbour list, always an earlier one, or 0 at the list's end.
+// An entry of the pattern, low < high: 16 bits hold the largest order, 16,384.
 #[derive(Clone, Copy, Default)]
 pub struct Entry {
-    pub low: u32,
-    pub high: u32,
-    pub link: u32,
+    pub low: u16,
+    pub high: u16,
+    // Working storage of no connection with this entry: a slot each of the lists of lower and of upper neighbours.
+    pub lower: u16,
+    pub upper: u16,
 }
 
 // Which of an entry's two vertices.
@@ -38,8 +39,9 @@ pub struct Vertex {
     // At the end the column count; before that 1, then the size of the subtree, then this vertex's share of the column
     // counts.
     pub weight: Weight,
-    // The first entry of the neighbour list, by its 1-based position, or 0.
-    pub head: u32,
+    // Where the slots of its lower neighbours end, and those of its upper ones: both follow those of the vertex before.
+    pub lower_end: u32,
+    pub upper_end: u32,
     // While places are given, the place that the next child takes; while counting, the last lower neighbour met, or 0.
     pub last: u32,
     // While counting, the place of that neighbour, or 0.

@@ -21,27 +21,32 @@ fn bay(rt: HostRuntime) {
         Entry {
             low: 1,
             high: 4,
-            link: 0,
+            lower: 0,
+            upper: 0,
         },
         Entry {
             low: 2,
             high: 3,
-            link: 0,
+            lower: 0,
+            upper: 0,
         },
         Entry {
             low: 2,
             high: 5,
-            link: 0,
+            lower: 0,
+            upper: 0,
         },
         Entry {
             low: 3,
             high: 6,
-            link: 0,
+            lower: 0,
+            upper: 0,
         },
         Entry {
             low: 4,
             high: 6,
-            link: 0,
+            lower: 0,
+            upper: 0,
         },
     ];
     assert_eq!(rt; analyse(6, &mut vertices, &mut entries, &mut sets), Ok(13));
@@ -68,12 +73,14 @@ fn several_trees(rt: HostRuntime) {
         Entry {
             low: 1,
             high: 5,
-            link: 0,
+            lower: 0,
+            upper: 0,
         },
         Entry {
             low: 2,
             high: 4,
-            link: 0,
+            lower: 0,
+            upper: 0,
         },
     ];
     assert_eq!(rt; analyse(5, &mut vertices, &mut entries, &mut sets), Ok(7));
@@ -92,13 +99,14 @@ fn too_few_sets(rt: HostRuntime) {
     let mut entries = [Entry {
         low: 1,
         high: 2,
-        link: 7,
+        lower: 7,
+        upper: 8,
     }];
     assert_eq!(rt;
         analyse(2, &mut vertices, &mut entries, &mut sets),
         Err(NoRoom)
     );
-    assert_eq!(rt; entries[0].link, 7);
+    assert_eq!(rt; (entries[0].lower, entries[0].upper), (7, 8));
 }
 
 // 1 below 3, and 2 a root. The sets have been in use before.

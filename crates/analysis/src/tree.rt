@@ -3,11 +3,12 @@ ghost use Rattle.std.specs.Prelude.{◌≡◌, ◌-◌, ◌≤◌, map, length};
 ghost use Rattle.analysis.specs.declared.records.End.{End};
 ghost use Rattle.analysis.specs.declared.records.End.TheVariants.{High};
 ghost use Rattle.analysis.specs.Tables.{parent_of, Has, parent_from, tree_from, Only};
-ghost use Rattle.analysis.specs.Links.{Listed};
+ghost use Rattle.analysis.specs.Pools.{Listed};
 ghost use Rattle.analysis.specs.Growth.{pattern_in, Fresh, alone, Grown, Adopted, adopted, Tree, Rooted};
 ghost use Rattle.analysis.specs.Order.{Forest, AllWeighOne};
 
-use crate::records::{Entry, Vertex};
+use crate::neighbours::neighbours;
+use crate::records::{End, Entry, Vertex};
 use gather::kinds::Weight;
 use sets::AncestorSets;
 
@@ -52,8 +53,8 @@ fn adopt_row<S: AncestorSets>(u: u32, vertices: &mut [Vertex], entries: &[Entry]
     ensures done { Grown (pattern_in vertices.old entries.now) u vertices.new (S.meaning sets.new) }
     ensures only { Only parent_from vertices.old vertices.new }
 {
-    for entry in vertices[u as usize - 1].neighbours(entries) {
-        adopt(entry.low, u, vertices, sets);
+    for slot in neighbours(End::High, u, vertices, entries) {
+        adopt(slot.lower as u32, u, vertices, sets);
     }
 }
 

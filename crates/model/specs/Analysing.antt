@@ -20,7 +20,7 @@ pub record Refused (s t : Store) (before after : Sets) : Type 0 where
   pub store : t ≡ s
   pub sets : Untouched before after
 
--- the vertex table is filled in; the entries are as they were but for their links
+-- the vertex table is filled in; the entries are as they were but for their slots
 pub record Analysed (s t : Store) (before after : Sets) (sum : ℕ) : Type 0 where
   pub found : analysis.Analysed s.order t.vertices.now (held_by s) (held_by t) before after sum
   pub order : t.order ≡ s.order

@@ -38,7 +38,7 @@ pub record Changed (s t : Store) : Type 0 where
 pub record Pushed (p : Pair) (s t : Store) : Type 0 where
   pub others : Changed s t
   pub count : t.held ≡ s.held + 1
-  pub entries : held_by t ≡ held_by s ++ record { low = p.low; high = p.high; link = 0 } ∷ []
+  pub entries : held_by t ≡ held_by s ++ record { low = p.low; high = p.high; lower = 0; upper = 0 } ∷ []
 
 pub record Removed (at : ℕ) (s t : Store) : Type 0 where
   pub others : Changed s t

@@ -32,14 +32,14 @@ impl Store<'_> {
     ghost use Rattle.model.specs.Stored.{Fresh, Pushed, Removed, held_by};
     ghost use Rattle.model.specs.Tables.{index_of};
 
-    // Where the entry of these two vertices stands, if it does. An entry has a link that a pair has not, so that the
+    // Where the entry of these two vertices stands, if it does. An entry has slots that a pair has not, so that the
     // two vertices are compared, here, and written, in `push`, one by one.
     pub(crate) fn find(&self, pair: Pair) -> Option<usize>
         ensures { result ≡ index_of pair (held_by self.now) }
     {
         self.entries[..self.held as usize]
             .iter()
-            .position(|entry| entry.low == pair.low && entry.high == pair.high)
+            .position(|entry| entry.low as u32 == pair.low && entry.high as u32 == pair.high)
     }
 
     // Holds one more entry, after the others.
@@ -48,9 +48,10 @@ impl Store<'_> {
         ensures { Pushed pair self.old self.new }
     {
         self.entries[self.held as usize] = Entry {
-            low: pair.low,
-            high: pair.high,
-            link: 0,
+            low: pair.low as u16,
+            high: pair.high as u16,
+            lower: 0,
+            upper: 0,
         };
         self.held += 1;
         self.total = None;

@@ -1,42 +1,61 @@
 use Rattle.std.proofs.Common.{ap, ◌∙◌, subst, arith, rules, length, drop}
 use Rattle.std.proofs.lemmas.List.{length-take-le}
 use Rattle.pattern.specs.Elimination as elimination
+use Rattle.analysis.specs.declared.records.End.{End}
+use Rattle.analysis.specs.declared.records.End.TheVariants.{Low, High}
+use Rattle.analysis.specs.Pools.{Listed}
 use Rattle.analysis.specs.Growth.{pattern_of, pattern_in}
 use Rattle.analysis.specs.Counts.{TopsAreRoots}
 use Rattle.analysis.specs.Analysed.{Answered}
 use Rattle.analysis.proofs.Phases.{same_pattern, Settled, settled, ready, answered, answered_front}
+use Rattle.analysis.proofs.Phases.{lower_kept, listed_ordered, listed_front}
 use Rattle.analysis.proofs.analyse.Given as given
 use Rattle.analysis.proofs.analyse.Goals as goal
-use Rattle.analysis.proofs.analyse.Goals.{After-link_by-2}
+use Rattle.analysis.proofs.analyse.Goals.{After-pool_by-2, After-order}
 
--- once the entries are linked anew
-listed : (g : given.Over) (c : After-link_by-2 g) →
-    Settled (pattern_in c.link_by-2.new.vertices c.link_by-2.new.entries) c.link_by-2.new.vertices
-listed g c =
-    settled _ _ _ _ _ _ (omega arith) (omega arith) c.link_by-2.ensures.pairs c.grow.ensures.tree
-    c.order.ensures.answers c.order.ensures.only c.link_by-2.ensures.only
+-- once the neighbours are listed by either end
+lower : (g : given.Over) (c : After-pool_by-2 g) → Listed High c.pool_by-2.new.vertices c.pool_by-2.new.entries
+lower g c =
+    lower_kept _ _ _ _ (omega arith) c.pool_by-2.ensures.pairs c.pool_by-2.ensures.only c.pool_by-2.ensures.slots
+    c.pool_by.ensures.lists
+
+pub grow-requires-clause-lists : goal.grow-requires-clause-lists
+grow-requires-clause-lists g c = lower g (goal.at.grow-requires-clause-lists g c).After-pool_by-2
+
+-- once the tree is grown and in order
+ordered : (g : given.Over) (c : After-order g) →
+    Settled (pattern_in c.order.new.vertices c.pool_by-2.new.entries) c.order.new.vertices
+ordered g c =
+    settled _ _ _ _ (omega arith) (omega arith) c.grow.ensures.tree c.order.ensures.answers c.order.ensures.only
+
+listed : (g : given.Over) (c : After-order g) (which : End) →
+    Listed which c.pool_by-2.new.vertices c.pool_by-2.new.entries →
+    Listed which c.order.new.vertices c.pool_by-2.new.entries
+listed g c which =
+    listed_ordered which _ _ _ _ (omega arith) (omega arith) c.grow.ensures.only c.order.ensures.only
 
 pub count-requires-clause-prepared : goal.count-requires-clause-prepared
 count-requires-clause-prepared g c =
     let front = length-take-le c.args.n c.args.vertices.now c.requires.within in
+    let at = (goal.at.count-requires-clause-prepared g c).After-order in
     record {
       few = omega arith;
-      lists = c.link_by-2.ensures.lists;
-      tree = ready _ _ (listed g (goal.at.count-requires-clause-prepared g c).After-link_by-2);
+      lists = listed g at Low c.pool_by-2.ensures.lists;
+      tree = ready _ _ (ordered g at);
     }
 
 pub returns : goal.returns
 returns g c =
     let n = c.args.n in
     let es = c.args.entries.now in
-    let vs = c.link_by-2.new.vertices in
-    let gs = c.link_by-2.new.entries in
+    let vs = c.order.new.vertices in
+    let gs = c.pool_by-2.new.entries in
     let counted = c.count.new.vertices in
+    let at = (goal.at.returns g c).After-order in
     let front = length-take-le n c.args.vertices.now c.requires.within in
-    let pairs = c.link_by-2.ensures.pairs ∙ c.link_by.ensures.pairs in
+    let pairs = c.pool_by-2.ensures.pairs ∙ c.pool_by.ensures.pairs in
     let same = same_pattern n (length vs) es gs (omega arith) pairs in
-    let all = answered _ _ _ (listed g (goal.at.returns g c).After-link_by-2) c.count.ensures.only
-    c.count.ensures.counted in
+    let all = answered _ _ _ (ordered g at) c.count.ensures.only c.count.ensures.counted in
     record {
       room = search rules;
       pairs = pairs;
@@ -45,4 +64,8 @@ returns g c =
       answers = answered_front (pattern_of n es) counted (drop n c.args.vertices.now) (omega arith)
           (subst (λ p. Answered p counted) same all);
       sums = c.total.ensures (pattern_in vs gs) (omega arith) c.count.ensures.counted ∙ ap elimination.total same;
+      lower = listed_front High _ _ _ _ _ (omega arith) (omega arith) c.count.ensures.only
+          (listed g at High (lower g (goal.at.returns g c).After-pool_by-2));
+      upper = listed_front Low _ _ _ _ _ (omega arith) (omega arith) c.count.ensures.only
+          (listed g at Low c.pool_by-2.ensures.lists);
     }

@@ -1,47 +1,41 @@
-use Rattle.std.proofs.Common.{◌<◌, ◌≤◌, refl, ◌∙◌, arith, rules}
+use Rattle.std.proofs.Common.{length, refl, ◌∙◌, arith}
 use Rattle.pattern.proofs.Crowns.{row_top}
+use Rattle.analysis.specs.declared.records.End.TheVariants.{High}
+use Rattle.analysis.specs.Tables.{SoundPair, entry}
 use Rattle.analysis.specs.Growth.{pattern_in}
 use Rattle.analysis.proofs.Changes.{parent_takes, only_none, only_then}
-use Rattle.analysis.proofs.Chains.{Taken, met_head, links_fall, lower_at, step_taken}
+use Rattle.analysis.proofs.Slots.{slot_sound}
 use Rattle.analysis.proofs.Tops.{top_within, only_adopted, adoption}
-use Rattle.analysis.proofs.Tops.{row_at_head, row_at_link, row_at_none}
+use Rattle.analysis.proofs.Tops.{row_at_first, row_at_next, row_at_last}
 use Rattle.analysis.proofs.tree.adopt_row.Given as given
 use Rattle.analysis.proofs.tree.adopt_row.Goals as goal
-use Rattle.analysis.proofs.tree.adopt_row.Goals.{In-Some}
+use Rattle.analysis.proofs.tree.adopt_row.Goals.{In-loop-slot}
 
-pub neighbours-entry-items-requires : goal.neighbours-entry-items-requires
-neighbours-entry-items-requires g c =
+pub loop-slot-init : goal.loop-slot-init
+loop-slot-init g c =
     record {
-      within = (met_head _ _ _ _ _ c.requires.lists.lists c.requires.has.0 c.requires.has.1).within;
-      falls = links_fall _ _ _ _ c.requires.lists.lists;
-    }
-
-pub loop-entry-init : goal.loop-entry-init
-loop-entry-init g c =
-    record {
-      same = search rules;
-      row = row_at_head _ _ _ _ c.requires.lists.sound _ _ _ c.requires.lists.lists c.requires.has.0 c.requires.has.1
-          (search rules) c.requires.before;
+      row = row_at_first _ _ _ _ _ _ c.requires.has.0 c.requires.before;
       size = refl;
       used = c.requires.used;
       only = only_none parent_takes _;
     }
 
--- the entry taken from the list of u, and its lower end
-taken : (g : given.Over) (c : In-Some g) →
-    Taken c.args.entries.now c.loop-entry.entry-iterator.at c.in-Some.entry c.next.new.self.at
-taken g c = step_taken _ _ _ _ _ _ c.loop-entry.invariant.same c.in-Some.ensures.steps
-
-low : (g : given.Over) (c : In-Some g) → (1 ≤ c.in-Some.entry.low) × (c.in-Some.entry.low < c.args.u)
-low g c = lower_at _ _ _ _ _ _ c.requires.lists.sound c.loop-entry.invariant.row.met (taken g c)
+-- the neighbour in the slot and u are a pair
+low : (g : given.Over) (c : In-loop-slot g) →
+    SoundPair (length c.args.vertices.now)
+    ((entry c.neighbours-slot-items.result.now c.loop-slot.slot-index).lower, c.args.u)
+low g c =
+    slot_sound High _ _ c.args.u _ c.requires.lists.sound c.neighbours-slot-items.ensures c.loop-slot.slot-index
+    (omega arith)
 
 pub adopt-requires : goal.adopt-requires
 adopt-requires g c =
-    let i = c.loop-entry.invariant in
-    let x = low g (goal.at.adopt-requires g c).In-Some in
+    let i = c.loop-slot.invariant in
+    let x = low g (goal.at.adopt-requires g c).In-loop-slot in
+    let r = x.rises in
     let used = i.used in
     record {
-      from = x.0;
+      from = x.from;
       to = omega arith;
       above = c.requires.has.0;
       within = omega arith;
@@ -49,19 +43,18 @@ adopt-requires g c =
       room = omega arith;
     }
 
-pub loop-entry-preserved : goal.loop-entry-preserved
-loop-entry-preserved g c =
-    let i = c.loop-entry.invariant in
-    let some = (goal.at.loop-entry-preserved g c).In-Some in
-    let x = low g some in
+pub loop-slot-preserved : goal.loop-slot-preserved
+loop-slot-preserved g c =
+    let i = c.loop-slot.invariant in
+    let x = low g (goal.at.loop-slot-preserved g c).In-loop-slot in
+    let rises = x.rises in
     let used = i.used in
-    let r = top_within _ c.in-Some.entry.low (g.S.AncestorSets.sound c.loop-entry.sets) x.0 (omega arith) in
+    let r = top_within _ _ (g.S.AncestorSets.sound c.loop-slot.sets) x.from (omega arith) in
     let put = c.adopt.ensures.tops in
     let is = c.adopt.ensures.parents in
     record {
-      same = c.in-Some.ensures.steps.entries ∙ i.same;
-      row = row_at_link _ _ _ _ c.requires.lists.sound _ _ _ _ _ _ _ c.requires.lists.lists c.requires.has.1 i.row
-          (taken g some) (adoption _ _ _ _ _ _ _ put is r.0 (omega arith));
+      row = row_at_next _ _ _ _ c.requires.has.1 c.requires.lists.sound c.neighbours-slot-items.ensures _ _ _ _ _ _
+          (omega arith) refl i.row (adoption _ _ _ _ _ _ _ put is r.0 (omega arith));
       size = put.size ∙ i.size;
       used = put.used ∙ used;
       only = only_then parent_takes _ _ _ i.only (only_adopted _ _ _ _ is);
@@ -69,10 +62,11 @@ loop-entry-preserved g c =
 
 pub returns : goal.returns
 returns g c =
-    let i = c.loop-entry.invariant in
+    let i = c.loop-slot.invariant in
     record {
       size = i.size;
       used = i.used;
-      done = row_at_none _ _ _ _ c.requires.lists.sound _ _ c.in-None.ensures.steps.step.0 i.row;
+      done = row_at_last _ _ _ _ c.requires.has.1 c.requires.lists.sound c.neighbours-slot-items.ensures _ _ _
+          (omega arith) i.row;
       only = i.only;
     }

@@ -3,10 +3,9 @@ use Rattle.analysis.specs.Tables.{parent_of, parent_from, Only}
 use Rattle.analysis.proofs.Tops.{RowAt}
 use Rattle.analysis.proofs.tree.adopt_row.Given as goal
 
-abbrev pub invariant-loop-entry : goal.invariant-loop-entry
-invariant-loop-entry g l = record {
-  same : l.entry-iterator.entries.now ≡ l.entries;
-  row : RowAt (length l.initial.vertices) l.entries l.u l.entry-iterator.at
+abbrev pub invariant-loop-slot : goal.invariant-loop-slot
+invariant-loop-slot g l = record {
+  row : RowAt (length l.initial.vertices) l.entries l.u l.slot-items l.slot-index
       (parent_of l.vertices) (g.S.AncestorSets.meaning l.sets).top;
   size : (g.S.AncestorSets.meaning l.sets).size ≡ (g.S.AncestorSets.meaning l.initial.sets).size;
   used : (g.S.AncestorSets.meaning l.sets).used ≡ length l.initial.vertices;
