@@ -10,7 +10,7 @@ use Rattle.analysis.specs.declared.records.End.{End}
 use Rattle.analysis.specs.declared.records.End.TheVariants.{Low, High}
 use Rattle.analysis.specs.declared.records.Vertex.{Vertex}
 use Rattle.analysis.specs.Tables.{vertex, no_vertex, pairs_of, slots_end, slots_from, Only, OnlySlots, neighbour}
-use Rattle.analysis.specs.Tables.{parent_from, order_from, counts_from}
+use Rattle.analysis.specs.Tables.{tree_from, order_from, counts_from}
 use Rattle.analysis.specs.Pools.{Listed}
 use Rattle.analysis.specs.Growth.{pattern_of, pattern_in, Tree}
 use Rattle.analysis.specs.Order.{ParentsOf, OrderedAs}
@@ -90,7 +90,7 @@ pub lower_kept : (vs ws : List Vertex) (es fs : List Entry) → length vs ≡ le
 lower_kept vs ws es fs tall pairs only slots =
     listed_kept High vs ws es fs tall pairs (λ v. ap (slots_end High) (only v)) (λ k. ap (neighbour High) (slots k))
 
-parents_keep : (which : End) (x y : Vertex) → slots_end which (parent_from x y) ≡ slots_end which x
+parents_keep : (which : End) (x y : Vertex) → slots_end which (tree_from x y) ≡ slots_end which x
 parents_keep Low x y = refl
 parents_keep High x y = refl
 
@@ -104,11 +104,11 @@ counts_keep High x y = refl
 
 -- and both stay through the phases
 pub listed_ordered : (which : End) (es : List Entry) (pooled grown ordered : List Vertex) →
-    length pooled ≡ length grown → length grown ≡ length ordered → Only parent_from pooled grown →
+    length pooled ≡ length grown → length grown ≡ length ordered → Only tree_from pooled grown →
     Only order_from grown ordered → Listed which pooled es → Listed which ordered es
 listed_ordered which es pooled grown ordered tall wide a b l =
     listed_only order_from which (order_keeps which) grown ordered es wide b
-    (listed_only parent_from which (parents_keep which) pooled grown es tall a l)
+    (listed_only tree_from which (parents_keep which) pooled grown es tall a l)
 
 -- to stand for the front of the whole table
 pub listed_front : (which : End) (n : ℕ) (es : List Entry) (ordered counted rest : List Vertex) →
