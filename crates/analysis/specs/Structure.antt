@@ -16,9 +16,9 @@ pub record Found (p : Pattern) (vs : List Vertex) : Type 0 where
   pub columns : (v : ℕ) → 1 ≤ v → v ≤ p.order → (vertex vs v).weight.0 ≡ pos (col_count p v)
 
 -- the two arrays have a place for each start and for each row
-pub record Room (p : Pattern) (starts rows : ℕ) : Type 0 where
-  pub starts : p.order < starts
-  pub rows : taken p p.order ≤ rows
+pub record Room (p : Pattern) (long wide : ℕ) : Type 0 where
+  pub starts : p.order < long
+  pub rows : taken p p.order ≤ wide
 
 -- the columns 1 to k have their rows up to u
 abbrev pub Filled : Pattern → ℕ → ℕ → List ℕ → List ℕ → Type 0
@@ -26,3 +26,12 @@ Filled p k u starts rows = filling.Filled p k u (slice_index starts) (slice_inde
 
 abbrev pub Climbing : Pattern → ℕ → ℕ → List ℕ → List ℕ → Type 0
 Climbing p u v starts rows = filling.Climbing p u v (slice_index starts) (slice_index rows)
+
+abbrev pub Climbed : Pattern → ℕ → ℕ → List ℕ → List ℕ → List ℕ → List ℕ → Type 0
+Climbed p u x starts rows starts' rows' =
+    filling.Climbed p u x (slice_index starts) (slice_index rows) (slice_index starts') (slice_index rows')
+
+-- nothing else of the two arrays has changed
+abbrev pub Rest : Pattern → List ℕ → List ℕ → List ℕ → List ℕ → Type 0
+Rest p starts rows starts' rows' =
+    filling.Rest p (slice_index starts) (slice_index rows) (slice_index starts') (slice_index rows')

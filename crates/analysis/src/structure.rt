@@ -1,18 +1,19 @@
 // The structure of the factor: the rows of each column, one column after the other, found row by row. Until its end the
 // number v of the starts is the cursor of column v: the place that its next row takes. At the end that is where the
 // column ends, and the next one starts. No marks are needed: a column that has a row has it last.
-ghost use Rattle.std.specs.Prelude.{◌≡◌, ◌+◌, ◌-◌, ◌<◌, ◌≤◌, ◌^◌, length, pos, slice_index, slice_set};
-ghost use Rattle.pattern.specs.Elimination.{col_count, parent};
-ghost use Rattle.pattern.specs.Filling.{Climbed, InRow, Rest};
+ghost use Rattle.std.specs.Prelude.{◌≡◌, ◌+◌, ◌-◌, ◌<◌, ◌≤◌, ◌^◌, length, slice_index, slice_set};
+ghost use Rattle.pattern.specs.Elimination as pattern;
+ghost use Rattle.pattern.specs.Filling.{InRow};
 ghost use Rattle.pattern.specs.Patterns.{Pattern};
 ghost use Rattle.pattern.specs.Structure as structure;
 ghost use Rattle.pattern.specs.Structure.{over, taken};
 ghost use Rattle.analysis.specs.declared.records.End.TheVariants.{High};
 ghost use Rattle.analysis.specs.Growth.{pattern_in};
 ghost use Rattle.analysis.specs.Links.{Listed};
-ghost use Rattle.analysis.specs.Structure.{Climbing, Filled, Found, Room};
+ghost use Rattle.analysis.specs.Structure.{Climbed, Climbing, Filled, Found, Rest, Room};
 ghost use Rattle.analysis.specs.Tables.{Has};
 
+use crate::counts::column_count;
 use crate::records::{Entry, Vertex};
 
 // Writes u as the next row of column v.
@@ -28,41 +29,36 @@ fn append(u: u32, v: u32, starts: &mut [u32], rows: &mut [u32])
     *cursor += 1;
 }
 
-// Begins column v at its place with the parent of v, which is the first of its rows. Answers the place of the next
-// column.
-fn begin_column(v: u32, vertex: &Vertex, place: u32, starts: &mut [u32], rows: &mut [u32]) -> u32
+// Begins column v at its place, with the parent of v, if it has one, which is the first of its rows.
+fn begin_column(v: u32, parent: u32, place: u32, starts: &mut [u32], rows: &mut [u32])
     ghost p: { Pattern }
     requires vertex { (1 ≤ v) × (v ≤ p.order) }
     requires few { p.order ≤ 16384 }
     requires room { Room p (length starts.old) (length rows.old) }
-    requires parent { vertex.now.parent ≡ parent p v }
-    requires columns { vertex.now.weight.0 ≡ pos (col_count p v) }
+    requires parent { parent ≡ pattern.parent p v }
     requires place { place ≡ taken p (v - 1) }
     requires before { Filled p (v - 1) 0 starts.old rows.old }
     ensures begun { Filled p v 0 starts.new rows.new }
-    ensures next { result ≡ taken p v }
-    ensures rest { Rest p (slice_index starts.old) (slice_index rows.old)
-        (slice_index starts.new) (slice_index rows.new) }
+    ensures rest { Rest p starts.old rows.old starts.new rows.new }
 {
     starts[v as usize] = place;
-    if vertex.parent != 0 {
-        append(vertex.parent, v, starts, rows);
+    if parent != 0 {
+        append(parent, v, starts, rows);
     }
-    place + vertex.weight.0 as u32 - 1
 }
 
-// Begins each column.
+// Begins each column after the one before.
 fn begin_columns(vertices: &[Vertex], starts: &mut [u32], rows: &mut [u32])
     ghost p: { Pattern }
     requires found { Found p vertices.now }
     requires room { Room p (length starts.old) (length rows.old) }
     ensures begun { Filled p p.order 0 starts.new rows.new }
-    ensures rest { Rest p (slice_index starts.old) (slice_index rows.old)
-        (slice_index starts.new) (slice_index rows.new) }
+    ensures rest { Rest p starts.old rows.old starts.new rows.new }
 {
     let mut place = 0;
     for (i, vertex) in vertices.iter().enumerate() {
-        place = begin_column(i as u32 + 1, vertex, place, starts, rows);
+        begin_column(i as u32 + 1, vertex.parent, place, starts, rows);
+        place += column_count(vertex) as u32 - 1;
     }
 }
 
@@ -75,8 +71,7 @@ fn climb(x: u32, u: u32, vertices: &[Vertex], starts: &mut [u32], rows: &mut [u3
     requires row { (1 ≤ u) × (u ≤ p.order) }
     requires met { InRow p u x }
     requires before { Climbing p u 0 starts.old rows.old }
-    ensures { Climbed p u x (slice_index starts.old) (slice_index rows.old)
-        (slice_index starts.new) (slice_index rows.new) }
+    ensures { Climbed p u x starts.old rows.old starts.new rows.new }
 {
     let mut v = x;
     while rows[starts[v as usize] as usize - 1] != u {
@@ -95,8 +90,7 @@ fn write_row(u: u32, vertices: &[Vertex], entries: &[Entry], starts: &mut [u32],
     requires has { Has vertices.now u }
     requires before { Filled p p.order (u - 1) starts.old rows.old }
     ensures row { Filled p p.order u starts.new rows.new }
-    ensures rest { Rest p (slice_index starts.old) (slice_index rows.old)
-        (slice_index starts.new) (slice_index rows.new) }
+    ensures rest { Rest p starts.old rows.old starts.new rows.new }
 {
     for entry in vertices[u as usize - 1].neighbours(entries) {
         climb(entry.low, u, vertices, starts, rows);
@@ -112,8 +106,7 @@ fn write_rows(vertices: &[Vertex], entries: &[Entry], starts: &mut [u32], rows: 
     requires room { Room p (length starts.old) (length rows.old) }
     requires before { Filled p p.order 0 starts.old rows.old }
     ensures rows { Filled p p.order p.order starts.new rows.new }
-    ensures rest { Rest p (slice_index starts.old) (slice_index rows.old)
-        (slice_index starts.new) (slice_index rows.new) }
+    ensures rest { Rest p starts.old rows.old starts.new rows.new }
 {
     for u in 1..=vertices.len() as u32 {
         write_row(u, vertices, entries, starts, rows);

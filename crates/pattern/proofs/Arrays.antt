@@ -39,7 +39,7 @@ module _ (p : Pattern) where
   pub taken_total : taken p p.order + p.order ≡ total p
   taken_total = omega (arith, rows_long, (columns p).rows_are)
 
-  taken_none : taken p 0 ≡ 0
+  pub taken_none : taken p 0 ≡ 0
   unfolding taken
   taken_none = refl
 

@@ -92,6 +92,14 @@ module _ (p : Pattern) where
             ∙ written w j some le from (omega arith)
       ]
 
+  -- of no columns, nothing is asked
+  pub filled_none : (C R : ℕ → ℕ) → Filled p 0 0 C R
+  filled_none C R =
+      record {
+        cursors = λ v some le. absurd (omega (arith, some, le));
+        written = λ v j some le. absurd (omega (arith, some, le));
+      }
+
   filled_within : {k u : ℕ} {C R : ℕ → ℕ} → k ≤ p.order → u ≤ p.order → Filled p k u C R →
       (w : ℕ) → 1 ≤ w → w ≤ k → C w ≤ taken p w
   filled_within {u = u} fits low filled w some le =
@@ -157,6 +165,14 @@ module _ (p : Pattern) where
                 omega (arith, cursors_placed w named le other, cursor_within p w 0 vw (omega arith))
           ]
 
+  -- the climb from x has come to v
+  pub record ClimbAt (u x v : ℕ) (C₀ R₀ C R : ℕ → ℕ) : Type 0 where
+    pub row : InRow p u v
+    pub climbing : Climbing p u v C R
+    pub met : (x ≡ v) ⊎ (C x ≡ cursor p u x)
+    pub kept : (w : ℕ) → 1 ≤ w → w ≤ p.order → C₀ w ≡ cursor p u w → C w ≡ cursor p u w
+    pub rest : Rest p C₀ R₀ C R
+
   -- row u
   module _ (u : ℕ) (uu : Vertex p.order u) where
     -- column v has u last, or it has its rows before u, with its parent among them, and u is to come
@@ -211,15 +227,7 @@ module _ (p : Pattern) where
             ]
           ]
 
-    -- the climb from x has come to v
-    pub record ClimbAt (x v : ℕ) (C₀ R₀ C R : ℕ → ℕ) : Type 0 where
-      pub row : InRow p u v
-      pub climbing : Climbing p u v C R
-      pub met : (x ≡ v) ⊎ (C x ≡ cursor p u x)
-      pub kept : (w : ℕ) → 1 ≤ w → w ≤ p.order → C₀ w ≡ cursor p u w → C w ≡ cursor p u w
-      pub rest : Rest p C₀ R₀ C R
-
-    pub climb_begins : {x : ℕ} {C R : ℕ → ℕ} → InRow p u x → Climbing p u 0 C R → ClimbAt x x C R C R
+    pub climb_begins : {x : ℕ} {C R : ℕ → ℕ} → InRow p u x → Climbing p u 0 C R → ClimbAt u x x C R C R
     climb_begins {x} {C} {R} row climbing =
         record {
           row = row;
@@ -234,7 +242,7 @@ module _ (p : Pattern) where
           rest = rest_none C R;
         }
 
-    module _ {x v : ℕ} {C₀ R₀ C R : ℕ → ℕ} (at : ClimbAt x v C₀ R₀ C R) where
+    module _ {x v : ℕ} {C₀ R₀ C R : ℕ → ℕ} (at : ClimbAt u x v C₀ R₀ C R) where
       -- column v has u: so have those above it
       pub climb_ends : R (C v - 1) ≡ u → Climbed p u x C₀ R₀ C R
       climb_ends last = elim (stands at.climbing at.row) [
@@ -298,7 +306,7 @@ module _ (p : Pattern) where
           ]
 
       -- u is written there, and the climb goes on to the parent
-      pub climb_step : {C' R' : ℕ → ℕ} → R (C v - 1) ≢ u → Appended u v C R C' R' → ClimbAt x (parent p v) C₀ R₀ C' R'
+      pub climb_step : {C' R' : ℕ → ℕ} → R (C v - 1) ≢ u → Appended u v C R C' R' → ClimbAt u x (parent p v) C₀ R₀ C' R'
       climb_step {C'} {R'} other put =
           record {
             row = lacks.row;
