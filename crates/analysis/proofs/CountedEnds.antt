@@ -1,17 +1,17 @@
 -- The counts as the pass begins and ends, and their sum.
-use Rattle.std.proofs.Common.{◌≡◌, ℕ, zero, suc, ◌-◌, ◌*◌, ◌^◌, ◌<◌, ◌≤◌, true, ◌&&◌, ◌||◌, eqb, ltb, List, [], ◌∷◌, map, take, length, get_or, sum_by, ℤ, pos, ◌+ℤ◌, ◌-ℤ◌, sym, refl, ap, ◌∙◌, subst, add-one, arith, w64, SFits}
+use Rattle.std.proofs.Common.{◌≡◌, ℕ, zero, suc, ◌-◌, ◌*◌, ◌^◌, ◌<◌, ◌≤◌, true, List, [], ◌∷◌, map, take, length, get_or, sum_by, ℤ, pos, ◌+ℤ◌, ◌-ℤ◌, sym, refl, ap, ◌∙◌, subst, add-one, arith, w64, SFits}
 use Rattle.std.specs.Int.{int_wrap}
 use Rattle.std.proofs.lemmas.Int.{int_wrap_fits as wrapped-fits, int_wrap-add_same, int_wrap-add_right}
 use Rattle.std.proofs.lemmas.List.{take_all}
 use Rattle.std.proofs.lemmas.List.Sums.{sum_by_more}
 use Rattle.std.proofs.lemmas.Bool.{or_left, or_right, eq-eqb, both_ways}
-use Rattle.pattern.specs.Lists.{upto, keep, occurs, sum}
+use Rattle.pattern.specs.Lists.{upto, occurs, sum}
 use Rattle.pattern.specs.Patterns.{Pattern}
-use Rattle.pattern.specs.Elimination.{fill, parent, col, col_count, total}
+use Rattle.pattern.specs.Elimination.{parent, col_count, total}
 use Rattle.pattern.specs.Forest.{children, subtree}
 use Rattle.pattern.specs.Counts.{sum_ℤ}
 use Rattle.pattern.specs.Passes.{weight_so_far}
-use Rattle.pattern.proofs.Lists.{in_keep, keep_grows, sum_next, length_upto}
+use Rattle.pattern.proofs.Lists.{in_keep, sum_next}
 use Rattle.pattern.proofs.Agree.{children_agrees, subtree_agrees}
 use Rattle.pattern.proofs.Columns.{column_fits}
 use Rattle.pattern.proofs.Passes.{happened_none, last_none, row_none, weight_none, passing_none}

@@ -1,10 +1,11 @@
 -- The structure in its two arrays: what a write to them comes to, and the columns as they are begun.
-use Rattle.std.proofs.Common.{◌≡◌, ◌≢◌, ℕ, ◌+◌, ◌-◌, ◌*◌, ◌<◌, ◌≤◌, List, length, get_or, set, sym, refl, ap, ◌∙◌, subst, inl, inr, arith}
+use Rattle.std.proofs.Common.{◌≡◌, ◌≢◌, ℕ, ◌+◌, ◌-◌, ◌<◌, ◌≤◌, true, List, length, get_or, set, sym, refl, ap, ◌∙◌, subst, inl, inr, arith}
 use Rattle.std.proofs.lemmas.Bool.{cases_eq, cases_lt}
 use Rattle.std.proofs.lemmas.List.{get_or-set_same, get_or-set_other, length-set, length-map}
 use Rattle.pattern.specs.Patterns.{Pattern, shares}
 use Rattle.pattern.specs.Elimination.{parent, col_count}
-use Rattle.pattern.specs.Structure.{taken}
+use Rattle.pattern.specs.Structure as structure
+use Rattle.pattern.specs.Structure.{taken, over}
 use Rattle.pattern.specs.Filling.{cursor, InRow}
 use Rattle.pattern.proofs.Tests.{Vertex as Ends}
 use Rattle.pattern.proofs.Entries.{shares_entry}
@@ -12,7 +13,7 @@ use Rattle.pattern.proofs.Rows.{sharing_fill}
 use Rattle.pattern.proofs.Tree.{parents_grow}
 use Rattle.pattern.proofs.Columns.{column_fits, higher_count, taken_next, taken_grows}
 use Rattle.pattern.proofs.Cursors.{low_vertex}
-use Rattle.pattern.proofs.Arrays.{taken_fits}
+use Rattle.pattern.proofs.Arrays.{taken_fits, starts_done, rows_done}
 use Rattle.pattern.proofs.Filling.{Placed, Appended, Within, rest_then, rest_placed, rest_appended, begun_root, within_begun, begun_parent}
 use Rattle.pattern.proofs.Filling.{ClimbAt, cursor_bounds, climb_lacks, climb_step, row_begins, row_ends}
 use Rattle.analysis.specs.declared.records.End.TheVariants.{High}
@@ -179,6 +180,18 @@ module _ (p : Pattern) (u x v : ℕ) (vs : List Vertex) (found : Found p vs) (uu
         let above = (climb_lacks p u uu at other).above in
         let rises = (parents_grow p).rises v vv.named vv.fits above.0 in
         omega (arith, found.tree.parents v vv.named vv.fits, found.order, uu.fits, above.1)
+
+-- all rows are written into arrays whose first start was set to 0
+module _ (p : Pattern) (starts rows starts' rows' : List ℕ) (room : Room p (length starts) (length rows))
+    (filled : Filled p p.order p.order starts' rows') (rest : Rest p (set starts 0 0) rows starts' rows') where
+  pub starts_over : length starts' ≡ length starts → starts' ≡ over (structure.starts p) starts
+  starts_over long =
+      starts_done p _ _ filled starts starts' long room.starts (λ _. refl)
+      (rest.first ∙ get_or-set_same starts 0 0 0 (omega (arith, room.starts)))
+      (λ j past. rest.cursors j past ∙ get_or-set_other starts 0 j 0 0 (λ e. omega (arith, past)))
+
+  pub rows_over : length rows' ≡ length rows → rows' ≡ over (structure.rows p) rows
+  rows_over wide = rows_done p _ _ filled rows rows' wide room.rows (λ _. refl) rest.places
 
 -- Row u as far as position k of the list of u: from each lower neighbour before k there, in its newer part, a climb has
 -- come.

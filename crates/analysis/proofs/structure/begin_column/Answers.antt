@@ -1,6 +1,5 @@
 use Rattle.std.proofs.Common.{ℕ, sym, ◌∙◌, arith}
 use Rattle.std.proofs.lemmas.List.{length-set}
-use Rattle.pattern.proofs.Tests.{Vertex}
 use Rattle.analysis.proofs.Structures.{column_root, column_place, column_parent}
 use Rattle.analysis.proofs.structure.begin_column.Goals as goal
 

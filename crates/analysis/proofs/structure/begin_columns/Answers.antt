@@ -1,4 +1,4 @@
-use Rattle.std.proofs.Common.{◌≡◌, ◌∙◌, sym, ap, refl, subst, arith}
+use Rattle.std.proofs.Common.{◌≡◌, ◌+◌, ◌-◌, ◌∙◌, sym, ap, subst, arith}
 use Rattle.pattern.specs.Structure.{taken}
 use Rattle.analysis.specs.Structure.{Filled}
 use Rattle.pattern.proofs.Filling.{filled_none, rest_none, rest_then}

@@ -1,4 +1,4 @@
-use Rattle.std.proofs.Common.{◌∙◌, ap, search, rules, arith}
+use Rattle.std.proofs.Common.{◌∙◌, rules, arith}
 use Rattle.pattern.proofs.Tests.{Vertex}
 use Rattle.pattern.proofs.Filling.{rest_none, rest_then}
 use Rattle.analysis.proofs.Chains.{Taken, met_head, links_fall, step_taken}

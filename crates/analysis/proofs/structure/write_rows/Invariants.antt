@@ -1,4 +1,4 @@
-use Rattle.std.proofs.Common.{◌≡◌, ◌-◌}
+use Rattle.std.proofs.Common.{◌-◌}
 use Rattle.analysis.specs.Structure.{Filled, Rest}
 use Rattle.analysis.proofs.structure.write_rows.Given as goal
 
