@@ -158,10 +158,7 @@ fn structure(rt: HostRuntime) {
         Err(Refusal::ArraysTooShort)
     );
     assert_eq!(rt; rows, [80; 9]);
-    assert_eq!(rt;
-        model.structure(&mut starts[..7], &mut rows[..7]),
-        Ok(())
-    );
+    assert_eq!(rt; model.structure(&mut starts[..7], &mut rows[..7]), Ok(()));
     assert_eq!(rt; starts, [0, 1, 3, 5, 6, 7, 7, 90, 90]);
     assert_eq!(rt; rows, [4, 3, 5, 5, 6, 6, 6, 80, 80]);
     let columns = Columns::new(&starts[..7], &rows);
