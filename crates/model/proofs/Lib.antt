@@ -6,3 +6,4 @@ mod Keeping
 mod Rules
 mod Turns
 mod Structures
+mod ReadBack
