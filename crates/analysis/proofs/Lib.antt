@@ -8,6 +8,7 @@ pub mod Descents
 pub mod Tops
 pub mod SettledTops
 mod Phases
+mod Structures
 pub mod CountedTables
 pub mod CountedEvents
 pub mod CountedEnds

@@ -13,6 +13,7 @@ pub mod order;
 pub mod pools;
 pub mod records;
 pub mod settling;
+pub mod structure;
 #[cfg(test)]
 mod tests;
 pub mod tree;

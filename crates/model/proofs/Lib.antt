@@ -5,3 +5,5 @@ mod Judging
 mod Keeping
 mod Rules
 mod Turns
+mod Structures
+mod ReadBack
