@@ -68,7 +68,8 @@ module _ (p : Pattern) (v place : ℕ) (starts rows : List ℕ) (few : p.order �
       (placed starts v place (omega (arith, vv.fits)))
 
   -- a root has no first row
-  pub column_root : parent p v ≡ 0 → Filled p v 0 (set starts v place) rows × Rest p starts rows (set starts v place) rows
+  pub column_root : parent p v ≡ 0 →
+      Filled p v 0 (set starts v place) rows × Rest p starts rows (set starts v place) rows
   column_root root = (begun_root p vv before put root, rest_placed p (λ k. get_or rows k 0) vv put)
 
   module _ (u : ℕ) (is : u ≡ parent p v) (some : u ≢ 0) where
