@@ -119,4 +119,4 @@ line_answered size l before after a block c whole =
     let v : Result Statement RunFault = line_verdict z s l.number (l.bytes.now, l.ended) in
     let h : Short v = short_verdict z s l.number _ (short_reading l.number l.bytes.now l.ended) in
     let both = told z before after v a h c in
-    record { state = c.state; block = whole both.0 ∙ ap whole_block both.1; keeps = c.keeps; table = c.table }
+    record { state = c.state; block = whole both.0 ∙ ap whole_block both.1; keeps = c.keeps; rest = c.rest }

@@ -3,5 +3,6 @@ mod Asking
 mod Entries
 mod Judging
 mod Keeping
+pub mod Rests
 mod Rules
 mod Turns
