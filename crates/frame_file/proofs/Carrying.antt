@@ -1,5 +1,6 @@
 -- What a call of the model makes of a line that asks for it.
-use Rattle.std.proofs.Common.{◌≡◌, ℕ, Bool, true, false, cond, not, length, is_err, Some, None, Ok, Err, Option, Result, sym, refl, ap, ◌∙◌, subst, arith}
+use Rattle.std.proofs.Common.{◌≡◌, ℕ, Bool, true, false, cond, not, length, is_err, Some, None, Ok, Err, Option}
+use Rattle.std.proofs.Common.{Result, sym, refl, ap, ◌∙◌, subst, arith}
 use Rattle.std.specs.Result.{MatchResult, result_map_both}
 use Rattle.model.specs.Meaning.{meaning, Outcome}
 use Rattle.model.specs.States.{State, Given, Analyse, first_refusal, answer, accepted, if_accepted, pattern_in, step}
@@ -20,8 +21,8 @@ use Rattle.frame_file.specs.Carried.{Carried, Does, lent_with}
 use Rattle.frame_file.specs.Runs.{Sizes, allowed, bare, in_place, judged, left_by, refusal_of, said, unless, written}
 
 -- what is told of a call that a refusal f may come before
-by_refusal : {X : Type 0} (z : Sizes) (t : Statement) (before after : Model) (x : X) (tell : X → Answer) (f : Option Refusal)
-    (r : Result Answer Refusal)
+by_refusal : {X : Type 0} (z : Sizes) (t : Statement) (before after : Model) (x : X) (tell : X → Answer)
+    (f : Option Refusal) (r : Result Answer Refusal)
     → meaning after ≡ if_accepted f (left_by z (meaning before) t) (meaning before)
     → bare (tell x) ≡ said (meaning after) t
     → (is_err (answer f x) ≡ true → after ≡ before)
@@ -40,7 +41,9 @@ by_refusal z t before after x tell (Some refusal) r turns says keeps rest told =
       state = turns;
       answer = ap (result_map_both bare (λ e. e)) told;
       keeps = λ _. keeps refl;
-      rest = subst (λ (m : Model). Untouched nowhere before.store m.store) (sym (keeps refl)) (untouched nowhere before.store);
+      rest =
+          subst (λ (m : Model). Untouched nowhere before.store m.store) (sym (keeps refl))
+          (untouched nowhere before.store);
     }
 
 -- what is told of a call that is given two vertices and answers how many entries are held
@@ -105,8 +108,8 @@ lined z line t (Some refusal) before after (Err refusal') r' e c =
     record { state = c.state; answer = grind arith; keeps = c.keeps; rest = c.rest }
 
 -- a statement that is in place is judged by the model alone
-pub in_its_place : {size : ℕ} (line : ℕ) (record' : Record) {t : Statement} {before after after' : Model} {r r₀ : Result Answer Refusal}
-    {r' : Result Answer RunFault}
+pub in_its_place : {size : ℕ} (line : ℕ) (record' : Record) {t : Statement} {before after after' : Model}
+    {r r₀ : Result Answer Refusal} {r' : Result Answer RunFault}
     → statement_of record' ≡ t
     → after' ≡ after
     → r ≡ r₀
@@ -117,7 +120,8 @@ pub in_its_place : {size : ℕ} (line : ℕ) (record' : Record) {t : Statement} 
 in_its_place {size} line record' {t} {before} {after} {after'} {r} {r₀} {r'} es ea er e placed does =
     let z : Sizes = lent_with before size in
     let s : State = meaning before in
-    let Q : Bool → Type 0 = λ b. Carried z (cond b (unless line (refusal_of z s t) t) (Err (OutOfPlace line))) before after r' in
+    let Q : Bool → Type 0 =
+    λ b. Carried z (cond b (unless line (refusal_of z s t) t) (Err (OutOfPlace line))) before after r' in
     let T : Statement → Type 0 = λ u. Does size (λ z s. allowed z s line u) before after' r' in
     let A : Model → Type 0 = λ m. Does size (λ z s. allowed z s line t) before m r' in
     let R : Result Answer Refusal → Type 0 = λ u. Does size (judged t) before after u in

@@ -24,10 +24,13 @@ module _ {A : Type 0} (took : A → List ℕ → A → Type 0) (start : Model) (
   all = lent_with start lent.size
 
   pub record Goes (reader : FrameReader) (model : Model) (sets : Sets) (sink : A) : Type 0 where
-    pub state : states_from all (handed reader) (meaning model) (left reader) ≡ states_from all 0 (meaning start) (lines file)
+    pub state :
+        states_from all (handed reader) (meaning model) (left reader) ≡ states_from all 0 (meaning start) (lines file)
     pub size : sets.size ≡ lent.size
     pub tall : places model ≡ places start
-    pub tops : sets_from all (handed reader) (meaning model) (left reader) sets ≡ sets_from all 0 (meaning start) (lines file) lent
+    pub tops :
+        sets_from all (handed reader) (meaning model) (left reader) sets
+        ≡ sets_from all 0 (meaning start) (lines file) lent
     pub tables : (end : Store)
         → Untouched (written_from all (handed reader) (meaning model) (left reader)) model.store end
         → Untouched (written_from all 0 (meaning start) (lines file)) start.store end
@@ -36,7 +39,8 @@ module _ {A : Type 0} (took : A → List ℕ → A → Type 0) (start : Model) (
         → Answered took all 0 (meaning start) (lines file) first end
 
   -- a turn: a line is handed out and carried out, and the sink takes its block
-  pub goes_on : (l : Line) (reader reader' : FrameReader) (before after : Model) (sets sets' : Sets) (block : List ℕ) (sink sink' : A)
+  pub goes_on : (l : Line) (reader reader' : FrameReader) (before after : Model) (sets sets' : Sets) (block : List ℕ)
+      (sink sink' : A)
       → Hands reader (Some l) reader'
       → LineAnswered sets.size l before after block
       → SameSets (line_sets (lent_with before sets.size) (meaning before) l.number (l.bytes.now, l.ended) sets) sets'
@@ -56,7 +60,8 @@ module _ {A : Type 0} (took : A → List ℕ → A → Type 0) (start : Model) (
       let settled : sets' ≡ line_sets all s (n + 1) this sets =
       same_sets _ sets' settles ∙ (λ k. line_sets (same k) s (hands.1 k) this sets) in
       let wrote : Untouched (line_written all s (n + 1) this) before.store after.store =
-      subst (λ (w : Places). Untouched w before.store after.store) (λ k. line_written (same k) s (hands.1 k) this) turn.rest in
+      subst (λ (w : Places). Untouched w before.store after.store)
+      (λ k. line_written (same k) s (hands.1 k) this) turn.rest in
       record {
         state =
             (λ k. states_from all (hands.2 k) (leaves k) (left reader'))
@@ -70,7 +75,8 @@ module _ {A : Type 0} (took : A → List ℕ → A → Type 0) (start : Model) (
             let later : Places = written_from all (handed reader') (meaning after) (left reader') in
             let both : written_from all n s (left reader) ≡ either (line_written all s (n + 1) this) later =
             ap (written_from all n s) hands.0
-            ∙ sym (λ k. either (line_written all s (n + 1) this) (written_from all (hands.2 k) (leaves k) (left reader'))) in
+            ∙ sym (λ k. either (line_written all s (n + 1) this)
+            (written_from all (hands.2 k) (leaves k) (left reader'))) in
             so_far.tables end
             (subst (λ (w : Places). Untouched w before.store end) (sym both)
             (untouched_by_both (line_written all s (n + 1) this) later before.store after.store end wrote more));

@@ -1,5 +1,6 @@
 -- What a line makes of the ancestor sets.
-use Rattle.std.proofs.Common.{◌≡◌, ℕ, Bool, true, false, cond, Some, None, Ok, Err, Option, Result, refl, sym, ap, ◌∙◌, subst}
+use Rattle.std.proofs.Common.{◌≡◌, ℕ, Bool, true, false, cond, Some, None, Ok, Err, Option, Result, refl, sym, ap}
+use Rattle.std.proofs.Common.{◌∙◌, subst}
 use mathlib.Core.Path.{fun_ext}
 use Rattle.sets.specs.Meaning.{Sets}
 use Rattle.model.specs.SetsAfter.{SameSets, sets_accepted, sets_after}

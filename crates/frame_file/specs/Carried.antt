@@ -11,7 +11,8 @@ use Rattle.frame_text.specs.Answers.{whole_block}
 use Rattle.frame_text.specs.Records.{Statement}
 use Rattle.frame_text.specs.declared.answers.Answer.{Answer}
 use Rattle.frame_text.specs.declared.lines.Line.{Line}
-use Rattle.frame_file.specs.Runs.{Sizes, bare, line_state, line_text, line_verdict, line_written, said, sets_by, state_by, written_by}
+use Rattle.frame_file.specs.Runs.{Sizes, bare, line_state, line_text, line_verdict, line_written, said, sets_by}
+use Rattle.frame_file.specs.Runs.{state_by, written_by}
 
 -- the length of a model's vertex table
 abbrev pub places : Model → ℕ

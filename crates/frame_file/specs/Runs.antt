@@ -1,6 +1,7 @@
 -- What a run makes of a line: whether it is accepted, the state of the model and the ancestor sets that it leaves, and
 -- its answer.
-use Rattle.std.specs.Prelude.{◌≡◌, ℕ, ◌+◌, Bool, true, false, cond, not, List, [], ◌∷◌, length, Ok, Err, Option, Result, ◌==◌, nat_lt}
+use Rattle.std.specs.Prelude.{◌≡◌, ℕ, ◌+◌, Bool, true, false, cond, not, List, [], ◌∷◌, length, Ok, Err, Option}
+use Rattle.std.specs.Prelude.{Result, ◌==◌, nat_lt}
 use Rattle.std.specs.Borrow.{Bor}
 use Rattle.std.specs.Result.{result_map_both}
 use Rattle.pattern.specs.Elimination.{total}
@@ -8,7 +9,8 @@ use Rattle.pattern.specs.Patterns.{Pattern}
 use Rattle.sets.specs.Meaning.{Sets}
 use Rattle.model.specs.Asked.{numbers_of}
 use Rattle.model.specs.SetsAfter.{sets_accepted}
-use Rattle.model.specs.States.{State, Put, Drop, Analyse, Question, answer, first_refusal, first_fault, made, accepted, pattern_in}
+use Rattle.model.specs.States.{State, Put, Drop, Analyse, Question, answer, first_refusal, first_fault, made}
+use Rattle.model.specs.States.{accepted, pattern_in}
 use Rattle.model.specs.Untouched.{Places, either, nowhere, writes}
 use Rattle.model.specs.declared.refusals.Refusal.{Refusal}
 use Rattle.frame_text.specs.Answers.{text_of, whole_block}
@@ -19,7 +21,8 @@ use Rattle.frame_text.specs.declared.answers.Answer.{Answer}
 use Rattle.frame_text.specs.declared.answers.Answer.TheVariants as says
 use Rattle.frame_text.specs.declared.faults.LineFault.{LineFault}
 use Rattle.frame_text.specs.declared.records.Question.{Question as Asking}
-use Rattle.frame_text.specs.declared.records.Question.TheVariants.{Parent, Place, FirstPlace, Height, RowCount, ColumnCount}
+use Rattle.frame_text.specs.declared.records.Question.TheVariants.{Parent, Place, FirstPlace, Height, RowCount}
+use Rattle.frame_text.specs.declared.records.Question.TheVariants.{ColumnCount}
 use Rattle.frame_file.specs.declared.faults.RunFault.{RunFault}
 use Rattle.frame_file.specs.declared.faults.RunFault.TheVariants.{FileTooLong, Line, OutOfPlace, Refused}
 use Rattle.frame_file.specs.declared.states.RunState.{RunState}
@@ -179,7 +182,8 @@ written_from z n s (l ∷ ls) =
     either (line_written z s (n + 1) l) (written_from z (n + 1) (line_state z s (n + 1) l) ls)
 
 -- from the sink p to the sink q, the blocks that answer lines after line n are taken, one for each line
-abbrev pub Answered : {A : Type 0} → (A → List ℕ → A → Type 0) → Sizes → ℕ → State → List (List ℕ × Bool) → A → A → Type 0
+abbrev pub Answered : {A : Type 0} → (A → List ℕ → A → Type 0) → Sizes → ℕ → State → List (List ℕ × Bool) → A → A
+    → Type 0
 Answered took z n s [] p q = p ≡ q
 Answered {A} took z n s (l ∷ ls) p q =
     (j : A) × took p (whole_block (line_text z s (n + 1) l)) j

@@ -86,7 +86,8 @@ fn ask<'f>(model: &Model<'_>, question: Question, vertex: Field<'f>) -> Result<A
     })
 }
 
-// What a record makes of the model, by how far the run has come: one match on both, which is the project's form for it.
+// What a record makes of the model and of the sets, by how far the run has come: one match on both, which is the
+// project's form for it.
 fn carry_out<'f, S: AncestorSets>(
     record: Record<'f>,
     line: usize,
@@ -114,7 +115,7 @@ fn carry_out<'f, S: AncestorSets>(
     .map_err(|refusal| RunFault::Refused { line, refusal })
 }
 
-// What a line makes of the model.
+// What a line makes of the model and of the sets.
 fn try_line<'f, S: AncestorSets>(
     line: Line<'f>,
     model: &mut Model<'_>,
@@ -144,8 +145,8 @@ pub fn answer_line<S: AncestorSets>(line: Line<'_>, model: &mut Model<'_>, sets:
     }
 }
 
-// Carries out the lines of a file in order, and hands the answer to each to the sink. Of a file that is too long no line
-// is carried out.
+// Carries out the lines of a file in order, and hands the answer to each to the sink. Of a file that is too long no
+// line is carried out.
 pub fn run_file<S: AncestorSets, A: Answers>(
     file: &[u8],
     model: &mut Model<'_>,

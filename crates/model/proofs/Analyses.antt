@@ -1,5 +1,6 @@
 -- What an analysis makes of a store and of a model.
-use Rattle.std.proofs.Common.{ℕ, ◌-◌, ◌≤◌, Bool, true, false, cond, ltb, [], ◌∷◌, None, Some, Ok, Err, Option, Result, refl, sym, subst, ◌≡◌, List, ◌++◌, length, take, drop, ap, ◌∙◌, arith}
+use Rattle.std.proofs.Common.{ℕ, ◌-◌, ◌≤◌, Bool, true, false, cond, ltb, [], ◌∷◌, None, Some, Ok, Err, Option}
+use Rattle.std.proofs.Common.{Result, refl, sym, subst, ◌≡◌, List, ◌++◌, length, take, drop, ap, ◌∙◌, arith}
 use Rattle.std.proofs.lemmas.List.{take-append-drop, length-take-le, get_or-take}
 use Rattle.std.proofs.lemmas.Bool.{le-ltb, lt-ltb}
 use Rattle.std.proofs.Math.Seq.{take-append_seam}
@@ -69,13 +70,12 @@ pub analysed_store : (s t : Store) (vs : List Vertex) (es : List Entry) (before 
     analysis.Analysed s.order s.vertices.now vs (held_by s) es before after sum → Analysed s t before after sum
 analysed_store s t vs es before after sum order held total vertices entries tall long count found =
     let rest = drop s.held s.entries.now in
+    let P : MutBor (List Vertex) → List Entry → Type 0 =
+    λ r fs. analysis.Analysed s.order s.vertices.now r.now (held_by s) fs before after sum in
     let front : held_by t ≡ es =
     (λ k. take (held k) (entries k).now) ∙ ap (λ n. take n (es ++ rest)) (sym count) ∙ take-append_seam es rest in
     record {
-      found = subst (λ fs. analysis.Analysed s.order s.vertices.now t.vertices.now (held_by s) fs before after sum)
-          (sym front)
-          (subst (λ (r : MutBor (List Vertex)). analysis.Analysed s.order s.vertices.now r.now (held_by s) es before after sum)
-          (sym vertices) found);
+      found = subst (λ fs. P t.vertices fs) (sym front) (subst (λ r. P r es) (sym vertices) found);
       order = order;
       held = held;
       total = total;

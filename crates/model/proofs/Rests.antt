@@ -1,5 +1,6 @@
 -- The places of the tables that a call does not write.
-use Rattle.std.proofs.Common.{◌≡◌, ℕ, ◌+◌, ◌-◌, ◌≤◌, Bool, false, eqb, ltb, leb, List, ◌++◌, length, drop, get_or, sym, refl, ap, ◌∙◌, arith}
+use Rattle.std.proofs.Common.{◌≡◌, ℕ, ◌+◌, ◌-◌, ◌≤◌, Bool, false, eqb, ltb, leb, List, ◌++◌, length, drop, get_or}
+use Rattle.std.proofs.Common.{sym, refl, ap, ◌∙◌, arith}
 use Rattle.std.proofs.lemmas.Bool.{leb-false, ltb-false, or_parts}
 use Rattle.std.proofs.lemmas.List.{get_or-drop}
 use Rattle.std.proofs.lemmas.Slice.{drop-append-drop}
@@ -39,9 +40,11 @@ untouched_by_both a b s t u first second =
       tall = second.tall ∙ first.tall;
       long = second.long ∙ first.long;
       vertices = λ v other.
-          let (one, two) = or_parts (a.vertices v) (b.vertices v) other in second.vertices v two ∙ first.vertices v one;
+          let (one, two) = or_parts (a.vertices v) (b.vertices v) other in
+          second.vertices v two ∙ first.vertices v one;
       entries = λ k other.
-          let (one, two) = or_parts (a.entries k) (b.entries k) other in second.entries k two ∙ first.entries k one;
+          let (one, two) = or_parts (a.entries k) (b.entries k) other in
+          second.entries k two ∙ first.entries k one;
     }
 
 -- lists that are the same past their first n elements

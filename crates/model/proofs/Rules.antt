@@ -1,5 +1,6 @@
 -- Which of several rules is met first, and what that makes of a call's outcome.
-use Rattle.std.proofs.Common.{not, is_some, Result, subst, ◌≡◌, true, false, List, [], ◌∷◌, ◌++◌, Some, None, Ok, Err, Option, sym, refl, ap, ◌∙◌}
+use Rattle.std.proofs.Common.{not, is_some, Result, subst, ◌≡◌, true, false, List, [], ◌∷◌, ◌++◌, Some, None, Ok}
+use Rattle.std.proofs.Common.{Err, Option, sym, refl, ap, ◌∙◌}
 use Rattle.std.specs.Option.{ok_or}
 use Rattle.std.specs.Result.{IsErrAnd}
 use Rattle.model.specs.declared.models.Model.{Model}

@@ -1,5 +1,6 @@
 -- What a push and a removal make of a store's meaning, and of the count of its entries.
-use Rattle.std.proofs.Common.{◌≡◌, ℕ, min, Bool, List, [], ◌∷◌, ◌++◌, length, is_some, Some, sym, ap, ◌∙◌, subst, arith}
+use Rattle.std.proofs.Common.{◌≡◌, ℕ, min, Bool, List, [], ◌∷◌, ◌++◌, length, is_some, Some, sym, ap, ◌∙◌, subst}
+use Rattle.std.proofs.Common.{arith}
 use Rattle.std.proofs.lemmas.List.{length-map, length-take-le, map_push}
 use Rattle.std.specs.List.{remove as taken_out}
 use Rattle.analysis.specs.Tables.{Sound, pair_of, pairs_of}

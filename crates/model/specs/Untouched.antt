@@ -20,8 +20,8 @@ either a b = record { vertices = λ v. a.vertices v || b.vertices v; entries = �
 abbrev pub all_of : State → Places
 all_of s = record { vertices = λ v. nat_le v s.order; entries = λ k. nat_lt k (length s.entries) }
 
--- a put writes the place after the entries held, a drop those of the entries that stay held, and an analysis, unless it
--- is done already, all that it is of
+-- a put writes the place after the entries held, a drop those of the entries that stay held, and an analysis, unless
+-- it is done already, all that it is of
 abbrev pub writes : State → Given → Places
 writes s (Put i j) = record { vertices = λ _. false; entries = λ k. k == length s.entries }
 writes s (Drop i j) = record { vertices = λ _. false; entries = λ k. nat_lt (k + 1) (length s.entries) }

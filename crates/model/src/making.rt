@@ -24,8 +24,8 @@ pub fn judge(order: u32, vertices: &[Vertex]) -> Result<(), Refusal>
     Ok(())
 }
 
-// A model that holds no entry: of the order given, or the empty one where `judge` refuses. It has the two tables whole,
-// as they are. That they are the ones lent is said for the caller that gets them back by `into_tables`.
+// A model that holds no entry: of the order given, or the empty one where `judge` refuses. It has the two tables
+// whole, as they are. That they are the ones lent is said for the caller that gets them back by `into_tables`.
 pub fn make<'a>(order: u32, vertices: &'a mut [Vertex], entries: &'a mut [Entry]) -> Model<'a>
     ensures state { meaning result ≡ made order (length vertices.old) (length entries.old) }
     ensures vertices { result.store.vertices.now ≡ vertices.old }
