@@ -1,5 +1,5 @@
 -- What a call of the model makes of a line that asks for it.
-use Rattle.std.proofs.Common.{◌≡◌, ℕ, Bool, true, false, cond, not, length, is_err, Some, None, Ok, Err, Option}
+use Rattle.std.proofs.Common.{◌≡◌, ℕ, Bool, true, cond, not, length, is_err, Some, None, Ok, Err, Option}
 use Rattle.std.proofs.Common.{Result, sym, refl, ap, ◌∙◌, subst, arith}
 use Rattle.std.specs.Result.{MatchResult, result_map_both}
 use Rattle.model.specs.Meaning.{meaning, Outcome}

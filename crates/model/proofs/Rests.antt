@@ -1,5 +1,5 @@
 -- The places of the tables that a call does not write.
-use Rattle.std.proofs.Common.{◌≡◌, ℕ, ◌+◌, ◌-◌, ◌≤◌, Bool, false, eqb, ltb, leb, List, ◌++◌, length, drop, get_or}
+use Rattle.std.proofs.Common.{◌≡◌, ℕ, ◌+◌, ◌-◌, ◌≤◌, Bool, false, eqb, ltb, List, ◌++◌, length, drop, get_or}
 use Rattle.std.proofs.Common.{sym, refl, ap, ◌∙◌, arith}
 use Rattle.std.proofs.lemmas.Bool.{leb-false, ltb-false, or_parts}
 use Rattle.std.proofs.lemmas.List.{get_or-drop}
@@ -11,7 +11,7 @@ use Rattle.analysis.specs.declared.records.Vertex.{Vertex}
 use Rattle.model.specs.declared.pairs.Pair.{Pair}
 use Rattle.model.specs.declared.stores.Store.{Store}
 use Rattle.model.specs.States.{Put, Drop}
-use Rattle.model.specs.Stored.{held_by, means, Changed, Pushed, Removed}
+use Rattle.model.specs.Stored.{means, Changed, Pushed, Removed}
 use Rattle.model.specs.Untouched.{Places, Untouched, all_of, either, writes}
 use Rattle.model.proofs.Turns.{count_is}
 

@@ -1,4 +1,4 @@
-use Rattle.std.proofs.Common.{refl, sym, ◌∙◌, arith}
+use Rattle.std.proofs.Common.{refl, arith}
 use Rattle.std.proofs.lemmas.List.{length-take-le}
 use Rattle.model.proofs.Analyses.{analysed_store, refusal}
 use Rattle.model.proofs.stores.Store.analyse.Goals as goal
