@@ -1,5 +1,5 @@
 -- What an analysis answers and leaves behind, refused or accepted.
-use Rattle.std.specs.Prelude.{◌≡◌, ℕ, ◌+◌, ◌<◌, ◌≤◌, List, take, pos}
+use Rattle.std.specs.Prelude.{◌≡◌, ℕ, ◌+◌, ◌<◌, ◌≤◌, List, take, drop, pos}
 use Rattle.pattern.specs.Patterns.{Pattern}
 use Rattle.pattern.specs.Elimination as elimination
 use Rattle.pattern.specs.Elimination.{parent, row_count, col_count}
@@ -32,10 +32,11 @@ pub record Answered (p : Pattern) (vs : List Vertex) : Type 0 where
   pub rows : (v : ℕ) → 1 ≤ v → v ≤ p.order → (vertex vs v).rows ≡ row_count p v
   pub columns : (v : ℕ) → 1 ≤ v → v ≤ p.order → (vertex vs v).weight.0 ≡ pos (col_count p v)
 
--- The vertices 1 to n are analysed, the sets have them in use, and the pattern is as it was. Both kinds of neighbours
--- are listed.
-pub record Analysed (n : ℕ) (ws : List Vertex) (es fs : List Entry) (s t : Sets) (total : ℕ) : Type 0 where
+-- The vertices 1 to n are analysed, the sets have them in use, and the pattern and the records past n are as they were.
+-- Both kinds of neighbours are listed.
+pub record Analysed (n : ℕ) (vs ws : List Vertex) (es fs : List Entry) (s t : Sets) (total : ℕ) : Type 0 where
   pub room : n ≤ s.size
+  pub past : drop n ws ≡ drop n vs
   pub pairs : pairs_of fs ≡ pairs_of es
   pub size : t.size ≡ s.size
   pub tops : TopsAreRoots (pattern_of n es) t

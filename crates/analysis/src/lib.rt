@@ -25,11 +25,11 @@ use crate::records::{End, Entry, Vertex};
 use crate::tree::grow;
 use sets::{AncestorSets, NoRoom};
 
-// Analyses the pattern of the entries, of order n: fills in the vertex records 1 to n and answers the sum of the
-// column counts, or refuses, changing nothing, if the sets have no room for n. The tables and the sets are passed on
-// each by itself: a struct that held the lent tables would need a clause in each method that it still holds the same
-// ones (`ghost_name`), one for each fact that it saves. And that a call leaves the sets' size alone is said by each,
-// since a caller sees only its clauses.
+// Analyses the pattern of the entries, of order n: fills in the vertex records 1 to n, leaves those past them, and
+// answers the sum of the column counts, or refuses, changing nothing, if the sets have no room for n. The tables and
+// the sets are passed on each by itself: a struct that held the lent tables would need a clause in each method that it
+// still holds the same ones (`ghost_name`), one for each fact that it saves. And that a call leaves the sets' size
+// alone is said by each, since a caller sees only its clauses.
 pub fn analyse<S: AncestorSets>(
     n: u32,
     vertices: &mut [Vertex],
@@ -42,7 +42,7 @@ pub fn analyse<S: AncestorSets>(
     requires fewer { length entries.old ≤ 262144 }
     requires sound { Sound n (pairs_of entries.old) }
     ensures { MatchResult result
-        (Analysed n vertices.new entries.old entries.new
+        (Analysed n vertices.old vertices.new entries.old entries.new
         (S.meaning sets.old) (S.meaning sets.new))
         (λ _. Refused n vertices.old vertices.new entries.old entries.new
         (S.meaning sets.old) (S.meaning sets.new)) }

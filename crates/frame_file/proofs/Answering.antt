@@ -1,5 +1,6 @@
 -- The block that answers a line, and that every answer stands whole in its block.
-use Rattle.std.proofs.Common.{◌≡◌, ℕ, ◌≤◌, Bool, true, false, cond, ◌&&◌, eqb, ltb, leb, List, [], ◌∷◌, length, get_or, Some, None, Ok, Err, Option, Result, sym, refl, ap, ◌∙◌, arith, lit≤}
+use Rattle.std.proofs.Common.{◌≡◌, ℕ, ◌≤◌, Bool, true, false, cond, ◌&&◌, eqb, ltb, leb, List, [], ◌∷◌, length}
+use Rattle.std.proofs.Common.{get_or, Some, None, Ok, Err, Option, Result, sym, refl, ap, ◌∙◌, arith, lit≤}
 use Rattle.std.proofs.lemmas.Bool.{and_parts, leb-true}
 use Rattle.model.specs.Meaning.{meaning}
 use Rattle.model.specs.States.{State}
@@ -19,7 +20,8 @@ use Rattle.frame_text.specs.declared.records.Kind.{Kind}
 use Rattle.frame_text.specs.declared.records.Kind.TheVariants as kinds
 use Rattle.frame_file.specs.declared.faults.RunFault.{RunFault}
 use Rattle.frame_file.specs.Carried.{Carried, Does, LineAnswered, lent_with}
-use Rattle.frame_file.specs.Runs.{Sizes, answer_by, bare, in_place, line_verdict, refusal_of, said, state_by, unless, verdict}
+use Rattle.frame_file.specs.Runs.{Sizes, answer_by, bare, in_place, line_verdict, refusal_of, said, state_by, unless}
+use Rattle.frame_file.specs.Runs.{verdict}
 
 -- how long a name a statement gives
 abbrev pub given_name : Statement → ℕ
@@ -45,16 +47,19 @@ short_fields kinds.Make i j =
     short_if (is_name i.bytes) (numbered j (Ok (makes i j))) (Err (Field (Name i.line i.number)))
     (λ e. short_numbered j (Ok (makes i j))
     (let n : ℕ = length i.bytes in
-    leb-true n 16 (and_parts (leb 1 n) (leb n 16) (and_parts (leb 1 n && leb n 16) (every name_byte i.bytes) e).0).1)) tt
+    let ends = and_parts (leb 1 n && leb n 16) (every name_byte i.bytes) e in
+    leb-true n 16 (and_parts (leb 1 n) (leb n 16) ends.0).1)) tt
 short_fields kinds.Put i j = short_numbered i (numbered j (Ok (puts i j))) (short_numbered j (Ok (puts i j)) (lit≤ tt))
-short_fields kinds.Drop i j = short_numbered i (numbered j (Ok (drops i j))) (short_numbered j (Ok (drops i j)) (lit≤ tt))
+short_fields kinds.Drop i j =
+    short_numbered i (numbered j (Ok (drops i j))) (short_numbered j (Ok (drops i j)) (lit≤ tt))
 short_fields kinds.Analyse i j = lit≤ tt
 short_fields (kinds.Ask question) i j = short_numbered i (Ok (asks question i)) (lit≤ tt)
 
 short_kind : (line : ℕ) (kind : Option Kind) (rest : List (List ℕ)) → Short (by_kind line kind rest)
 short_kind line None rest = tt
 short_kind line (Some kind) rest =
-    short_if (eqb (length rest) (operands kind)) (by_fields kind (part line 2 (get_or rest 0 [])) (part line 3 (get_or rest 1 []))) (Err (FieldCount line))
+    short_if (eqb (length rest) (operands kind))
+    (by_fields kind (part line 2 (get_or rest 0 [])) (part line 3 (get_or rest 1 []))) (Err (FieldCount line))
     (λ _. short_fields kind (part line 2 (get_or rest 0 [])) (part line 3 (get_or rest 1 []))) tt
 
 short_letter : (line : ℕ) (fs : List (List ℕ)) → Short (by_letter line fs)
@@ -69,7 +74,8 @@ short_unless : (line : ℕ) (f : Option Refusal) (t : Statement) → given_name 
 short_unless line None t h = h
 short_unless line (Some refusal) t h = tt
 
-short_verdict : (z : Sizes) (s : State) (line : ℕ) (r : Result Statement LineFault) → Short r → Short (verdict z s line r)
+short_verdict : (z : Sizes) (s : State) (line : ℕ) (r : Result Statement LineFault)
+    → Short r → Short (verdict z s line r)
 short_verdict z s line (Ok t) h = short_if (in_place s t) _ _ (λ _. short_unless line (refusal_of z s t) t h) tt
 short_verdict z s line (Err fault) h = tt
 
@@ -97,7 +103,8 @@ text_bare (says.Asked question vertex n) = refl
 text_bare (says.Refused report) = refl
 
 -- the text of an answer that is given, and that its name is short
-told : (z : Sizes) (before after : Model) (v : Result Statement RunFault) (a : Answer) → Short v → Carried z v before after (Ok a)
+told : (z : Sizes) (before after : Model) (v : Result Statement RunFault) (a : Answer) → Short v
+    → Carried z v before after (Ok a)
     → (name_length a ≤ 16) × (text_of a ≡ text_of (answer_by (state_by z (meaning before) v) v))
 told z before after (Ok t) a h c =
     let same : bare a ≡ said (meaning after) t = let e = c.answer in cc in
@@ -119,4 +126,4 @@ line_answered size l before after a block c whole =
     let v : Result Statement RunFault = line_verdict z s l.number (l.bytes.now, l.ended) in
     let h : Short v = short_verdict z s l.number _ (short_reading l.number l.bytes.now l.ended) in
     let both = told z before after v a h c in
-    record { state = c.state; block = whole both.0 ∙ ap whole_block both.1; keeps = c.keeps; table = c.table }
+    record { state = c.state; block = whole both.0 ∙ ap whole_block both.1; keeps = c.keeps; rest = c.rest }

@@ -1,11 +1,17 @@
--- What a run makes of a line: whether it is accepted, the state of the model that it leaves, and its answer.
-use Rattle.std.specs.Prelude.{◌≡◌, ℕ, ◌+◌, Bool, true, false, cond, not, List, [], ◌∷◌, length, Ok, Err, Option, Result, ◌==◌, nat_lt}
+-- What a run makes of a line: whether it is accepted, the state of the model and the ancestor sets that it leaves, and
+-- its answer.
+use Rattle.std.specs.Prelude.{◌≡◌, ℕ, ◌+◌, Bool, true, false, cond, not, List, [], ◌∷◌, length, Ok, Err, Option}
+use Rattle.std.specs.Prelude.{Result, ◌==◌, nat_lt}
 use Rattle.std.specs.Borrow.{Bor}
 use Rattle.std.specs.Result.{result_map_both}
 use Rattle.pattern.specs.Elimination.{total}
 use Rattle.pattern.specs.Patterns.{Pattern}
+use Rattle.sets.specs.Meaning.{Sets}
 use Rattle.model.specs.Asked.{numbers_of}
-use Rattle.model.specs.States.{State, Put, Drop, Analyse, Question, answer, first_refusal, first_fault, made, accepted, pattern_in}
+use Rattle.model.specs.SetsAfter.{sets_accepted}
+use Rattle.model.specs.States.{State, Put, Drop, Analyse, Question, answer, first_refusal, first_fault, made}
+use Rattle.model.specs.States.{accepted, pattern_in}
+use Rattle.model.specs.Untouched.{Places, either, nowhere, writes}
 use Rattle.model.specs.declared.refusals.Refusal.{Refusal}
 use Rattle.frame_text.specs.Answers.{text_of, whole_block}
 use Rattle.frame_text.specs.Fields.{value_of}
@@ -15,7 +21,8 @@ use Rattle.frame_text.specs.declared.answers.Answer.{Answer}
 use Rattle.frame_text.specs.declared.answers.Answer.TheVariants as says
 use Rattle.frame_text.specs.declared.faults.LineFault.{LineFault}
 use Rattle.frame_text.specs.declared.records.Question.{Question as Asking}
-use Rattle.frame_text.specs.declared.records.Question.TheVariants.{Parent, Place, FirstPlace, Height, RowCount, ColumnCount}
+use Rattle.frame_text.specs.declared.records.Question.TheVariants.{Parent, Place, FirstPlace, Height, RowCount}
+use Rattle.frame_text.specs.declared.records.Question.TheVariants.{ColumnCount}
 use Rattle.frame_file.specs.declared.faults.RunFault.{RunFault}
 use Rattle.frame_file.specs.declared.faults.RunFault.TheVariants.{FileTooLong, Line, OutOfPlace, Refused}
 use Rattle.frame_file.specs.declared.states.RunState.{RunState}
@@ -70,6 +77,22 @@ left_by z s (drops i j) = accepted s (Drop (number i) (number j))
 left_by z s analyses = accepted s (Analyse z.sets)
 left_by z s (asks question vertex) = accepted s (Question (number vertex))
 
+-- what an accepted statement makes of the ancestor sets, and where it may write in the tables of the model: the making
+-- of a model leaves both
+abbrev pub sets_left : Sizes → State → Statement → Sets → Sets
+sets_left z s (makes name order) sets = sets
+sets_left z s (puts i j) sets = sets_accepted s (Put (number i) (number j)) sets
+sets_left z s (drops i j) sets = sets_accepted s (Drop (number i) (number j)) sets
+sets_left z s analyses sets = sets_accepted s (Analyse z.sets) sets
+sets_left z s (asks question vertex) sets = sets_accepted s (Question (number vertex)) sets
+
+abbrev pub written : Sizes → State → Statement → Places
+written z s (makes name order) = nowhere
+written z s (puts i j) = writes s (Put (number i) (number j))
+written z s (drops i j) = writes s (Drop (number i) (number j))
+written z s analyses = writes s (Analyse z.sets)
+written z s (asks question vertex) = writes s (Question (number vertex))
+
 -- a list of bytes as if it were lent
 abbrev pub lent : List ℕ → Bor (List ℕ)
 lent bs = record { ref_ptr = (0, 0); now = bs }
@@ -112,6 +135,14 @@ abbrev pub state_by : {E : Type 0} → Sizes → State → Result Statement E �
 state_by z s (Ok t) = left_by z s t
 state_by z s (Err fault) = s
 
+abbrev pub sets_by : {E : Type 0} → Sizes → State → Result Statement E → Sets → Sets
+sets_by z s (Ok t) sets = sets_left z s t sets
+sets_by z s (Err fault) sets = sets
+
+abbrev pub written_by : {E : Type 0} → Sizes → State → Result Statement E → Places
+written_by z s (Ok t) = written z s t
+written_by z s (Err fault) = nowhere
+
 abbrev pub answer_by : State → Result Statement RunFault → Answer
 answer_by s (Ok t) = said s t
 answer_by s (Err fault) = says.Refused (run_report fault)
@@ -120,20 +151,39 @@ answer_by s (Err fault) = says.Refused (run_report fault)
 abbrev pub line_verdict : Sizes → State → ℕ → List ℕ × Bool → Result Statement RunFault
 line_verdict z s n l = verdict z s n (reading n l.0 l.1)
 
--- the state that a line leaves, and the text that answers it
+-- the state that a line leaves, the ancestor sets that it leaves, where it may write in the tables of the model, and
+-- the text that answers it
 abbrev pub line_state : Sizes → State → ℕ → List ℕ × Bool → State
 line_state z s n l = state_by z s (line_verdict z s n l)
+
+abbrev pub line_sets : Sizes → State → ℕ → List ℕ × Bool → Sets → Sets
+line_sets z s n l sets = sets_by z s (line_verdict z s n l) sets
+
+abbrev pub line_written : Sizes → State → ℕ → List ℕ × Bool → Places
+line_written z s n l = written_by z s (line_verdict z s n l)
 
 abbrev pub line_text : Sizes → State → ℕ → List ℕ × Bool → List ℕ
 line_text z s n l = text_of (answer_by (line_state z s n l) (line_verdict z s n l))
 
--- the state after lines, of which the first is the one after line n
+-- the state after lines, of which the first is the one after line n, the ancestor sets after them, and where they may
+-- write in the tables of the model
 abbrev pub states_from : Sizes → ℕ → State → List (List ℕ × Bool) → State
 states_from z n s [] = s
 states_from z n s (l ∷ ls) = states_from z (n + 1) (line_state z s (n + 1) l) ls
 
+abbrev pub sets_from : Sizes → ℕ → State → List (List ℕ × Bool) → Sets → Sets
+sets_from z n s [] sets = sets
+sets_from z n s (l ∷ ls) sets =
+    sets_from z (n + 1) (line_state z s (n + 1) l) ls (line_sets z s (n + 1) l sets)
+
+abbrev pub written_from : Sizes → ℕ → State → List (List ℕ × Bool) → Places
+written_from z n s [] = nowhere
+written_from z n s (l ∷ ls) =
+    either (line_written z s (n + 1) l) (written_from z (n + 1) (line_state z s (n + 1) l) ls)
+
 -- from the sink p to the sink q, the blocks that answer lines after line n are taken, one for each line
-abbrev pub Answered : {A : Type 0} → (A → List ℕ → A → Type 0) → Sizes → ℕ → State → List (List ℕ × Bool) → A → A → Type 0
+abbrev pub Answered : {A : Type 0} → (A → List ℕ → A → Type 0) → Sizes → ℕ → State → List (List ℕ × Bool) → A → A
+    → Type 0
 Answered took z n s [] p q = p ≡ q
 Answered {A} took z n s (l ∷ ls) p q =
     (j : A) × took p (whole_block (line_text z s (n + 1) l)) j
@@ -143,9 +193,19 @@ Answered {A} took z n s (l ∷ ls) p q =
 abbrev pub longest_file : ℕ
 longest_file = 32768
 
--- the state after a file
+-- whether a file is longer than a run takes
+abbrev pub too_long : List ℕ → Bool
+too_long file = nat_lt longest_file (length file)
+
+-- the same after a file: of one that is too long nothing is carried out
 abbrev pub file_state : Sizes → State → List ℕ → State
-file_state z s file = cond (nat_lt longest_file (length file)) s (states_from z 0 s (lines file))
+file_state z s file = cond (too_long file) s (states_from z 0 s (lines file))
+
+abbrev pub file_sets : Sizes → State → List ℕ → Sets → Sets
+file_sets z s file sets = cond (too_long file) sets (sets_from z 0 s (lines file) sets)
+
+abbrev pub file_written : Sizes → State → List ℕ → Places
+file_written z s file = cond (too_long file) nowhere (written_from z 0 s (lines file))
 
 -- what the sink takes of a file: one block if it is too long, else the answers to its lines
 abbrev pub Taken : {A : Type 0} → (A → List ℕ → A → Type 0) → Bool → Sizes → State → List ℕ → A → A → Type 0
@@ -153,4 +213,4 @@ Taken took true z s file p q = took p (whole_block (text_of (says.Refused (run_r
 Taken took false z s file p q = Answered took z 0 s (lines file) p q
 
 abbrev pub FileAnswered : {A : Type 0} → (A → List ℕ → A → Type 0) → Sizes → State → List ℕ → A → A → Type 0
-FileAnswered took z s file p q = Taken took (nat_lt longest_file (length file)) z s file p q
+FileAnswered took z s file p q = Taken took (too_long file) z s file p q

@@ -8,6 +8,7 @@ impl<'a> Listing<'a> {
     // A listing that holds none yet.
     pub fn new(blocks: &'a mut [[u8; 32]]) -> Listing<'a>
         ensures blocks { result.blocks.now ≡ blocks.old }
+        ensures loan { result.blocks.ghost_name ≡ blocks.entry.ghost_name }
         ensures count { result.len ≡ 0 }
     {
         Listing { blocks, len: 0 }

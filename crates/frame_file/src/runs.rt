@@ -1,14 +1,16 @@
 // The run of a file: what each line makes of the model, and its answer.
 // The model and the sets stay two parameters: each method of a struct that held them would have to say that it still
-// holds the same two. That the sets' size stays has to be said by each function up to the one of a line, since a caller
-// sees only its clauses.
-ghost use Rattle.std.specs.Prelude.{◌≡◌, ℕ};
+// holds the same two.
+ghost use Rattle.std.specs.Prelude.{◌≡◌, ℕ, ◌<◌, length};
 ghost use Rattle.frame_text.specs.Records.{asks, makes, part_of, statement_of};
 ghost use Rattle.model.specs.Asked.{asked};
 ghost use Rattle.model.specs.Meaning.{meaning as means};
+ghost use Rattle.model.specs.SetsAfter.{SameSets};
 ghost use Rattle.model.specs.States.{made};
-ghost use Rattle.frame_file.specs.Carried.{Does, LineAnswered, lent_with, places};
-ghost use Rattle.frame_file.specs.Runs.{FileAnswered, allowed, file_state, judged, line_verdict, number_of, run_state};
+ghost use Rattle.model.specs.Untouched.{Untouched, nowhere};
+ghost use Rattle.frame_file.specs.Carried.{Does, LineAnswered, Settles, lent_with, places};
+ghost use Rattle.frame_file.specs.Runs.{allowed, judged, line_sets, line_verdict, number_of, run_state};
+ghost use Rattle.frame_file.specs.Runs.{FileAnswered, file_sets, file_state, file_written};
 
 use crate::faults::RunFault;
 use crate::sinks::Answers;
@@ -33,7 +35,8 @@ fn run_state(model: &Model) -> RunState
 
 // Makes the model anew in its own tables.
 fn remake(model: &mut Model<'_>, order: u32)
-    ensures { means model.new ≡ made order (places model.old) (means model.old).capacity }
+    ensures state { means model.new ≡ made order (places model.old) (means model.old).capacity }
+    ensures tables { Untouched nowhere model.old.store model.new.store }
 {
     let (vertices, entries) = std::mem::replace(model, make(0, &mut [], &mut [])).into_tables();
     *model = make(order, vertices, entries);
@@ -83,7 +86,8 @@ fn ask<'f>(model: &Model<'_>, question: Question, vertex: Field<'f>) -> Result<A
     })
 }
 
-// What a record makes of the model, by how far the run has come: one match on both, which is the project's form for it.
+// What a record makes of the model and of the sets, by how far the run has come: one match on both, which is the
+// project's form for it.
 fn carry_out<'f, S: AncestorSets>(
     record: Record<'f>,
     line: usize,
@@ -92,7 +96,8 @@ fn carry_out<'f, S: AncestorSets>(
 ) -> Result<Answer<'f>, RunFault>
     ensures carried { Does (S.meaning sets.old).size (λ z s. allowed z s line (statement_of «record».entry))
         model.old model.new result }
-    ensures room { (S.meaning sets.new).size ≡ (S.meaning sets.old).size }
+    ensures sets { Settles (λ z s. allowed z s line (statement_of «record».entry)) model.old
+        (S.meaning sets.old) (S.meaning sets.new) }
 {
     match (run_state(model), record) {
         (RunState::BeforeModel, Record::Make { name, order }) => make_model(model, name, order),
@@ -110,7 +115,7 @@ fn carry_out<'f, S: AncestorSets>(
     .map_err(|refusal| RunFault::Refused { line, refusal })
 }
 
-// What a line makes of the model.
+// What a line makes of the model and of the sets.
 fn try_line<'f, S: AncestorSets>(
     line: Line<'f>,
     model: &mut Model<'_>,
@@ -119,7 +124,8 @@ fn try_line<'f, S: AncestorSets>(
     ensures carried { Does (S.meaning sets.old).size
         (λ z s. line_verdict z s line.entry.number (line.entry.bytes.now, line.entry.ended))
         model.old model.new result }
-    ensures room { (S.meaning sets.new).size ≡ (S.meaning sets.old).size }
+    ensures sets { Settles (λ z s. line_verdict z s line.entry.number (line.entry.bytes.now, line.entry.ended))
+        model.old (S.meaning sets.old) (S.meaning sets.new) }
 {
     let record = line.read()?;
     carry_out(record, line.number, model, sets)
@@ -128,7 +134,10 @@ fn try_line<'f, S: AncestorSets>(
 // Carries out a line, and answers it by a block of 32 bytes.
 pub fn answer_line<S: AncestorSets>(line: Line<'_>, model: &mut Model<'_>, sets: &mut S) -> [u8; 32]
     ensures answered { LineAnswered (S.meaning sets.old).size line.entry model.old model.new result }
-    ensures room { (S.meaning sets.new).size ≡ (S.meaning sets.old).size }
+    ensures sets { SameSets
+        (line_sets (lent_with model.old (S.meaning sets.old).size) (means model.old)
+        line.entry.number (line.entry.bytes.now, line.entry.ended) (S.meaning sets.old))
+        (S.meaning sets.new) }
 {
     match try_line(line, model, sets) {
         Ok(answer) => answer.block(),
@@ -136,7 +145,8 @@ pub fn answer_line<S: AncestorSets>(line: Line<'_>, model: &mut Model<'_>, sets:
     }
 }
 
-// Carries out the lines of a file in order, and hands the answer to each to the sink.
+// Carries out the lines of a file in order, and hands the answer to each to the sink. Of a file that is too long no
+// line is carried out.
 pub fn run_file<S: AncestorSets, A: Answers>(
     file: &[u8],
     model: &mut Model<'_>,
@@ -147,7 +157,13 @@ pub fn run_file<S: AncestorSets, A: Answers>(
         file_state (lent_with model.old (S.meaning sets.old).size) (means model.old) file.now }
     ensures answers { FileAnswered A.took (lent_with model.old (S.meaning sets.old).size)
         (means model.old) file.now answers.old answers.new }
-    ensures room { (S.meaning sets.new).size ≡ (S.meaning sets.old).size }
+    ensures sets { SameSets
+        (file_sets (lent_with model.old (S.meaning sets.old).size) (means model.old) file.now (S.meaning sets.old))
+        (S.meaning sets.new) }
+    ensures tables { Untouched
+        (file_written (lent_with model.old (S.meaning sets.old).size) (means model.old) file.now)
+        model.old.store model.new.store }
+    ensures keeps { FILE_MOST < length file.now → model.new ≡ model.old }
 {
     if file.len() > FILE_MOST {
         answers.take(&Answer::from(RunFault::FileTooLong).block());

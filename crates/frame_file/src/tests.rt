@@ -2,7 +2,7 @@
 use crate::{Answers, Listing, run_file};
 use analysis::records::{Entry, Vertex};
 use model::make;
-use sets::HalvedLinks;
+use sets::{AncestorSets, HalvedLinks, WrittenTops};
 
 // Whether the texts of the blocks, one after another, are what is expected.
 fn told(blocks: &[[u8; 32]], expected: &[u8]) -> bool {
@@ -27,6 +27,26 @@ fn files_of_32_768_bytes_and_of_32_769(rt: HostRuntime) {
     assert!(rt; answers(&file[0..32_768], &mut [0; 1], b"E,1,0,2\n"));
     assert!(rt; answers(&file, &mut [0; 1], b"E,0,0,1\n"));
     assert!(rt; answers(b"", &mut [0; 1], b""));
+}
+
+// What the sets stand for after a file: the last accepted analysis, whatever lines come after it.
+#[test]
+fn sets_after_a_file(rt: HostRuntime) {
+    let mut vertices = [Vertex::new(); 3];
+    let mut entries = [Entry::new(); 3];
+    let mut numbers = [0; 4];
+    let mut blocks = [[0u8; 32]; 7];
+    let mut model = make(0, &mut vertices, &mut entries);
+    let mut sets = WrittenTops::new(&mut numbers);
+    let mut listing = Listing::new(&mut blocks);
+    let file = b"M,X,3\nP,1,3\nA\nP,1,2\nU,1\nM,X,2\nA,1\n";
+    run_file(file, &mut model, &mut sets, &mut listing);
+    assert_eq!(rt; sets.find(1), Some(3));
+    assert_eq!(rt; sets.find(2), Some(2));
+    assert_eq!(rt; sets.find(4), None);
+    run_file(&[b'A'; 32_769], &mut model, &mut sets, &mut listing);
+    assert_eq!(rt; sets.find(1), Some(3));
+    assert_eq!(rt; model.held(), 2);
 }
 
 #[test]

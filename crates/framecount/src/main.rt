@@ -20,6 +20,7 @@ const GATHERED: usize = 4096;
 
 // How many bytes the text of a block takes, with its LF.
 fn text_len(block: &[u8; 32]) -> usize
+    ensures some { 1 ≤ result }
     ensures within { result ≤ 32 }
     ensures before { (k : ℕ) → k + 1 < result → slice_index block.now k ≢ 10 }
     ensures found { result < 32 → slice_index block.now (result - 1) ≡ 10 }

@@ -1,7 +1,9 @@
 -- What an analysis makes of a store and of a model.
-use Rattle.std.proofs.Common.{ℕ, ◌-◌, ◌≤◌, Bool, true, false, cond, ltb, [], ◌∷◌, None, Ok, Err, Option, Result, refl, sym, subst, ◌≡◌, List, ◌++◌, length, take, drop, ap, ◌∙◌, arith}
+use Rattle.std.proofs.Common.{ℕ, ◌-◌, ◌≤◌, Bool, true, false, cond, ltb, [], ◌∷◌, None, Some, Ok, Err, Option}
+use Rattle.std.proofs.Common.{Result, refl, sym, subst, ◌≡◌, List, ◌++◌, length, take, drop, ap, ◌∙◌, arith}
 use Rattle.std.proofs.lemmas.List.{take-append-drop, length-take-le, get_or-take}
 use Rattle.std.proofs.lemmas.Bool.{le-ltb, lt-ltb}
+use Rattle.std.proofs.Math.Seq.{take-append_seam}
 use Rattle.pattern.specs.Elimination.{total, parent}
 use Rattle.pattern.specs.Patterns.{Pattern, within}
 use Rattle.pattern.specs.Tops.{root}
@@ -33,11 +35,8 @@ use Rattle.model.specs.SetsAfter.{SameSets, settled as settled_sets, sets_after}
 use Rattle.model.specs.States.{Analyse, pattern_in, if_accepted, empty, first_of, first_refusal}
 use Rattle.model.specs.Stored.{held_by, means}
 use Rattle.model.proofs.Keeping.{same_model, same_store}
+use Rattle.model.proofs.Rests.{with_now, written}
 use Rattle.model.proofs.Rules.{none_of, refused}
-
--- the slice lent, with other elements
-abbrev pub with_now : {X : Type 0} → MutBor (List X) → List X → MutBor (List X)
-with_now r xs = record { ref_ptr = r.ref_ptr; ghost_name = r.ghost_name; now = xs }
 
 refused_store : (s t : Store) (vs : List Vertex) (es : List Entry) (before after : Sets) →
     t.order ≡ s.order → t.held ≡ s.held → t.total ≡ s.total → t.vertices ≡ with_now s.vertices vs →
@@ -61,6 +60,27 @@ pub refusal : (s t : Store) (vs : List Vertex) (es : List Entry) (before after :
     MatchResult r (Analysed s t before after) (λ _. Refused s t before after)
 refusal s t vs es before after r order held total vertices entries err found =
     MatchResult-from_err r _ _ err (λ _. refused_store s t vs es before after order held total vertices entries found)
+
+-- an analysis of a store that is accepted
+pub analysed_store : (s t : Store) (vs : List Vertex) (es : List Entry) (before after : Sets) (sum : ℕ) →
+    t.order ≡ s.order → t.held ≡ s.held → t.total ≡ Some sum → t.vertices ≡ with_now s.vertices vs →
+    t.entries ≡ with_now s.entries (es ++ drop s.held s.entries.now) →
+    length t.vertices.now ≡ length s.vertices.now → length t.entries.now ≡ length s.entries.now →
+    length es ≡ s.held →
+    analysis.Analysed s.order s.vertices.now vs (held_by s) es before after sum → Analysed s t before after sum
+analysed_store s t vs es before after sum order held total vertices entries tall long count found =
+    let rest = drop s.held s.entries.now in
+    let P : MutBor (List Vertex) → List Entry → Type 0 =
+    λ r fs. analysis.Analysed s.order s.vertices.now r.now (held_by s) fs before after sum in
+    let front : held_by t ≡ es =
+    (λ k. take (held k) (entries k).now) ∙ ap (λ n. take n (es ++ rest)) (sym count) ∙ take-append_seam es rest in
+    record {
+      found = subst (λ fs. P t.vertices fs) (sym front) (subst (λ r. P r es) (sym vertices) found);
+      order = order;
+      held = held;
+      total = total;
+      rest = written s t vs es vertices entries tall long count found.past;
+    }
 
 -- an analysis's first refusal, by whether the sets are too small
 analyse_first : (m : Model) (size : ℕ) (narrow : Bool) → first_of (empty (meaning m) ∷ []) ≡ None →

@@ -1,9 +1,11 @@
 -- Entries held: how a put and a drop keep them sound and apart, and what the search finds.
-use Rattle.std.proofs.Common.{◌≡◌, ℕ, zero, suc, ◌+◌, ◌-◌, ◌<◌, ◌≤◌, min, max, true, false, cond, not, ◌&&◌, ◌||◌, eqb, List, [], ◌∷◌, ◌++◌, length, take, drop, is_some, Some, sym, refl, ap, ◌∙◌, ⊎_elim, arith}
+use Rattle.std.proofs.Common.{◌≡◌, ℕ, zero, suc, ◌+◌, ◌-◌, ◌<◌, ◌≤◌, min, max, true, false, cond, not, ◌&&◌, ◌||◌}
+use Rattle.std.proofs.Common.{eqb, List, [], ◌∷◌, ◌++◌, length, take, drop, is_some, Some, sym, refl, ap, ◌∙◌}
+use Rattle.std.proofs.Common.{⊎_elim, arith}
 use lib.Seq.{paste}
 use Rattle.std.specs.List.{copy_within, position_from, remove}
-use Rattle.std.proofs.lemmas.List.{length-drop, length-take-le, take-append-le}
-use Rattle.std.proofs.lemmas.List.Edits.{length-paste, take-paste}
+use Rattle.std.proofs.lemmas.List.{drop-append-le, length-drop, length-take-le, take-append-drop, take-append-le}
+use Rattle.std.proofs.lemmas.List.Edits.{drop-paste, length-paste, take-paste}
 use Rattle.std.proofs.Math.Seq.{take-length}
 use Rattle.std.proofs.lemmas.Bool.{and_parts, and_from, cases_Bool, cond-true, cond-false, or_parts, or_from, not-true}
 use Rattle.std.proofs.lemmas.Bool.Decides.{nat_tests}
@@ -128,28 +130,57 @@ index_found n k i j p (e ∷ es) all is =
     })
     (cases_Bool hit)
 
--- the entries held with those after the one at `at` copied down by one: all but the last are then the others
-pub close_gap : (at held : ℕ) (es fs : List Entry) →
-    fs ≡ copy_within (take held es) (at + 1) (length (take held es)) at → at < held → held ≤ length es →
-    take (held - 1) (fs ++ drop held es) ≡ remove (take held es) at
-close_gap at held es fs is stands fits =
-    let xs = take held es in
-    let n = held - (at + 1) in
-    let count : length xs ≡ held = length-take-le held es fits in
-    let sum : held - 1 ≡ at + n = omega arith in
-    let below : at ≤ length xs = omega arith in
-    let rest : length (drop (at + 1) xs) ≡ n = length-drop (at + 1) xs ∙ ap (λ m. m - (at + 1)) count in
-    let long : n ≤ length (drop (at + 1) xs) = omega arith in
-    let moved : fs ≡ paste xs at (drop (at + 1) xs) n = is ∙ ap (λ m. copy_within xs (at + 1) m at) count in
-    let pasted : take (at + n) (paste xs at (drop (at + 1) xs) n) ≡ take at xs ++ take n (drop (at + 1) xs) =
-    take-paste xs at (drop (at + 1) xs) n below long in
-    let all : take n (drop (at + 1) xs) ≡ drop (at + 1) xs =
-    ap (λ m. take m (drop (at + 1) xs)) (sym rest) ∙ take-length (drop (at + 1) xs) in
-    let whole : length fs ≡ length xs =
-    ap length moved ∙ length-paste xs at (drop (at + 1) xs) n (omega arith) long in
-    let front : take (held - 1) (fs ++ drop held es) ≡ take (held - 1) fs =
-    take-append-le (held - 1) fs (drop held es) (omega arith) in
-    let suc_is : at + 1 ≡ suc at = omega arith in
-    let taken : take (held - 1) fs ≡ take (at + n) (paste xs at (drop (at + 1) xs) n) =
-    λ k. take (sum k) (moved k) in
-    front ∙ taken ∙ pasted ∙ (λ k. take at xs ++ all k) ∙ (λ k. take at xs ++ drop (suc_is k) xs)
+-- the entries held with those after the one at `at` copied down by one
+module _ (at held : ℕ) (es fs : List Entry)
+    (is : fs ≡ copy_within (take held es) (at + 1) (length (take held es)) at)
+    (stands : at < held) (fits : held ≤ length es) where
+  abbrev moved : ℕ
+  moved = held - (at + 1)
+
+  abbrev later : List Entry
+  later = drop (at + 1) (take held es)
+
+  count : length (take held es) ≡ held
+  count = length-take-le held es fits
+
+  below : at ≤ length (take held es)
+  below = omega (arith, count)
+
+  sum : held - 1 ≡ at + moved
+  sum = omega arith
+
+  later_count : length later ≡ moved
+  later_count = length-drop (at + 1) (take held es) ∙ ap (λ m. m - (at + 1)) count
+
+  enough : moved ≤ length later
+  enough = omega (arith, later_count)
+
+  pasted : fs ≡ paste (take held es) at later moved
+  pasted = is ∙ ap (λ m. copy_within (take held es) (at + 1) m at) count
+
+  whole : length fs ≡ length (take held es)
+  whole = ap length pasted ∙ length-paste (take held es) at later moved (omega (arith, count)) enough
+
+  short : held - 1 ≤ length fs
+  short = omega (arith, whole, count)
+
+  -- all but the last are then the others
+  pub close_gap : take (held - 1) (fs ++ drop held es) ≡ remove (take held es) at
+  close_gap =
+      let all : take moved later ≡ later = ap (λ m. take m later) (sym later_count) ∙ take-length later in
+      let suc_is : at + 1 ≡ suc at = omega arith in
+      take-append-le (held - 1) fs (drop held es) short
+      ∙ (λ k. take (sum k) (pasted k))
+      ∙ take-paste (take held es) at later moved below enough
+      ∙ (λ k. take at (take held es) ++ all k)
+      ∙ (λ k. take at (take held es) ++ drop (suc_is k) (take held es))
+
+  -- and the last and what comes after it stays
+  pub gap_past : drop (held - 1) (fs ++ drop held es) ≡ drop (held - 1) es
+  gap_past =
+      drop-append-le (held - 1) fs (drop held es) short
+      ∙ (λ k. drop (sum k) (pasted k) ++ drop held es)
+      ∙ ap (λ l. l ++ drop held es) (drop-paste (take held es) at later moved below enough)
+      ∙ ap (λ m. drop m (take held es) ++ drop held es) (sym sum)
+      ∙ sym (drop-append-le (held - 1) (take held es) (drop held es) (omega (arith, count)))
+      ∙ ap (drop (held - 1)) (take-append-drop held es)

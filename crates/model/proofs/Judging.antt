@@ -1,5 +1,6 @@
 -- Which refusal a put and a drop meet first, from what the code has found out.
-use Rattle.std.proofs.Common.{◌≡◌, ℕ, ◌<◌, min, max, Bool, false, not, eqb, [], ◌∷◌, ◌++◌, length, is_some, Some, None, Ok, Option, sym, refl, ap, ◌∙◌, subst, arith}
+use Rattle.std.proofs.Common.{◌≡◌, ℕ, ◌<◌, min, max, Bool, false, not, eqb, [], ◌∷◌, ◌++◌, length, is_some, Some}
+use Rattle.std.proofs.Common.{None, Ok, Option, sym, refl, ap, ◌∙◌, subst, arith}
 use Rattle.std.proofs.lemmas.List.{length-take-le}
 use Rattle.std.proofs.lemmas.Bool.{eqb-false, not-false}
 use Rattle.pattern.specs.Patterns.{listed}
@@ -11,8 +12,9 @@ use Rattle.model.specs.declared.refusals.Refusal.TheVariants.{EntryHeld, ModelFu
 use Rattle.model.specs.Meaning.{meaning, Outcome}
 use Rattle.model.specs.States.{State, Given, Put, Drop, accepted, answer, changed, step}
 use Rattle.model.specs.States.{first_of, first_refusal, entry_rules}
-use Rattle.model.specs.Stored.{held_by, means, Changed, Fresh, Pushed, Removed}
+use Rattle.model.specs.Stored.{held_by, means, Fresh, Pushed, Removed}
 use Rattle.model.specs.Tables.{index_of, sorted}
+use Rattle.model.specs.Untouched.{Untouched, writes}
 use Rattle.model.proofs.Entries.{listed_index, index_found}
 use Rattle.model.proofs.Rules.{answered, none_of, unmet, carried}
 use Rattle.model.proofs.Keeping.{within_from}
@@ -93,11 +95,11 @@ put_turned s t i j p fine pushed =
 
 -- an accepted put or drop answers how many are then held
 pub counted : (g : Given) (m n : Model) → first_refusal (meaning m) g ≡ None → meaning n ≡ accepted (meaning m) g →
-    Changed m.store n.store → Outcome g m n (length (step (meaning m) g).entries) (Ok n.store.held)
-counted g m n none turned others =
-    let long : length n.store.vertices.now ≡ length m.store.vertices.now = λ k. length (others.vertices k).now in
-    let outcome = carried {X = ℕ} g m n 0 0 none turned refl long in
-    carried g m n _ _ none turned (count_is n.store ∙ ap (λ s. length s.entries) outcome.turns) long
+    Untouched (writes (meaning m) g) m.store n.store →
+    Outcome g m n (length (step (meaning m) g).entries) (Ok n.store.held)
+counted g m n none turned rest =
+    let outcome = carried {X = ℕ} g m n 0 0 none turned refl rest in
+    carried g m n _ _ none turned (count_is n.store ∙ ap (λ s. length s.entries) outcome.turns) rest
 
 -- where the pair is found, its entry either way round is
 found_at : (s : Store) (i j at : ℕ) (p : Pair) (o : Option ℕ) → Judged (means s) i j p →

@@ -1,11 +1,14 @@
 -- Which of several rules is met first, and what that makes of a call's outcome.
-use Rattle.std.proofs.Common.{not, is_some, Result, subst, ◌≡◌, true, false, List, [], ◌∷◌, ◌++◌, length, Some, None, Ok, Err, Option, sym, refl, ap, ◌∙◌}
+use Rattle.std.proofs.Common.{not, is_some, Result, subst, ◌≡◌, true, false, List, [], ◌∷◌, ◌++◌, Some, None, Ok}
+use Rattle.std.proofs.Common.{Err, Option, sym, refl, ap, ◌∙◌}
 use Rattle.std.specs.Option.{ok_or}
 use Rattle.std.specs.Result.{IsErrAnd}
 use Rattle.model.specs.declared.models.Model.{Model}
 use Rattle.model.specs.declared.refusals.Refusal.{Refusal}
 use Rattle.model.specs.Meaning.{meaning, Outcome}
 use Rattle.model.specs.States.{Given, Rule, first_of, first_refusal, accepted, if_accepted, answer}
+use Rattle.model.specs.Untouched.{Untouched, writes}
+use Rattle.model.proofs.Rests.{untouched}
 
 -- the rules after those that are not met
 pub none_of : (xs ys : List Rule) → first_of xs ≡ None → first_of (xs ++ ys) ≡ first_of ys
@@ -35,18 +38,18 @@ refused g m x f is =
       answers = ap (λ o. answer o x) (sym is);
       turns = ap (λ o. if_accepted o (accepted (meaning m) g) (meaning m)) (sym is);
       keeps = λ _. refl;
-      table = refl;
+      rest = untouched _ m.store;
     }
 
 pub carried : {X : Type 0} (g : Given) (m n : Model) (x y : X) → first_refusal (meaning m) g ≡ None →
-    meaning n ≡ accepted (meaning m) g → y ≡ x → length n.store.vertices.now ≡ length m.store.vertices.now →
+    meaning n ≡ accepted (meaning m) g → y ≡ x → Untouched (writes (meaning m) g) m.store n.store →
     Outcome g m n x (Ok y)
-carried g m n x y is turned same long =
+carried g m n x y is turned same rest =
     record {
       answers = ap Ok same ∙ ap (λ o. answer o x) (sym is);
       turns = turned ∙ ap (λ o. if_accepted o (accepted (meaning m) g) (meaning m)) (sym is);
       keeps = λ err. absurd (cc);
-      table = long;
+      rest = rest;
     }
 
 -- a call that answers as an option that holds nothing does

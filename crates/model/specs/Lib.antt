@@ -6,5 +6,6 @@ pub mod SetsAfter
 pub mod Written
 pub mod Columns
 pub mod Analysing
+pub mod Untouched
 pub mod Meaning
 pub mod Asked

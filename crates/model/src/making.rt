@@ -24,12 +24,14 @@ pub fn judge(order: u32, vertices: &[Vertex]) -> Result<(), Refusal>
     Ok(())
 }
 
-// A model that holds no entry: of the order given, or the empty one where `judge` refuses. It has the two tables whole,
-// as they are.
+// A model that holds no entry: of the order given, or the empty one where `judge` refuses. It has the two tables
+// whole, as they are. That they are the ones lent is said for the caller that gets them back by `into_tables`.
 pub fn make<'a>(order: u32, vertices: &'a mut [Vertex], entries: &'a mut [Entry]) -> Model<'a>
     ensures state { meaning result ≡ made order (length vertices.old) (length entries.old) }
     ensures vertices { result.store.vertices.now ≡ vertices.old }
     ensures entries { result.store.entries.now ≡ entries.old }
+    ensures vertices_lent { result.store.vertices.ghost_name ≡ vertices.entry.ghost_name }
+    ensures entries_lent { result.store.entries.ghost_name ≡ entries.entry.ghost_name }
 {
     let order = judge(order, vertices).map_or(0, |()| order);
     Model {
@@ -55,6 +57,8 @@ impl<'a> Model<'a> {
     pub fn into_tables(self) -> (&'a mut [Vertex], &'a mut [Entry])
         ensures vertices { result.0.now ≡ self.entry.store.vertices.now }
         ensures entries { result.1.now ≡ self.entry.store.entries.now }
+        ensures vertices_lent { result.0.ghost_name ≡ self.entry.store.vertices.ghost_name }
+        ensures entries_lent { result.1.ghost_name ≡ self.entry.store.entries.ghost_name }
     {
         let Store {
             vertices,

@@ -1,5 +1,6 @@
 use Rattle.std.proofs.Common.{ap, ◌∙◌, subst, arith, rules, length, drop}
 use Rattle.std.proofs.lemmas.List.{length-take-le}
+use Rattle.std.proofs.lemmas.Slice.{drop-append-drop}
 use Rattle.pattern.specs.Elimination as elimination
 use Rattle.analysis.specs.declared.records.End.{End}
 use Rattle.analysis.specs.declared.records.End.TheVariants.{Low, High}
@@ -58,6 +59,7 @@ returns g c =
     let all = answered _ _ _ (ordered g at) c.count.ensures.only c.count.ensures.counted in
     record {
       room = search rules;
+      past = drop-append-drop n c.args.vertices.now counted n (omega arith) (omega arith);
       pairs = pairs;
       size = search rules;
       tops = subst (λ p. TopsAreRoots p (g.S.AncestorSets.meaning c.count.new.sets)) same c.count.ensures.tops;

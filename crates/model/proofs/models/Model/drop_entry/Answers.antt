@@ -1,6 +1,7 @@
 use Rattle.std.proofs.Common.{true, is_some, refl, sym, ap, ◌∙◌}
 use Rattle.std.specs.Result.{result_ok}
 use Rattle.model.proofs.Judging.{judged, drop_first, drop_turned, counted, stands}
+use Rattle.model.proofs.Rests.{drop_rest}
 use Rattle.model.proofs.Rules.{missed}
 use Rattle.model.proofs.models.Model.drop_entry.Goals as goal
 
@@ -24,4 +25,5 @@ returns c =
     let fine = judged _ _ _ _ (sym c.judge_entry.ensures ∙ c.in_ok-pair.was) in
     let at = c.ok_or.ensures.ok_part ∙ ap result_ok c.in_ok-at.was in
     counted _ _ _ (drop_first c.args.self.now _ _ _ _ true fine c.find.ensures (ap is_some at))
-    (drop_turned c.args.self.now.store _ _ _ _ _ _ fine c.find.ensures at c.remove.ensures) c.remove.ensures.others
+    (drop_turned c.args.self.now.store _ _ _ _ _ _ fine c.find.ensures at c.remove.ensures)
+    (drop_rest c.args.self.now.store _ c.args.i c.args.j c.remove.ensures)

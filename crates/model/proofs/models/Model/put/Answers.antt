@@ -1,6 +1,7 @@
 use Rattle.std.proofs.Common.{true, false, sym, refl, ◌∙◌}
 use Rattle.std.proofs.lemmas.Bool.{eq-eqb, ne_eqb}
 use Rattle.model.proofs.Judging.{judged, put_first, put_turned, fresh, counted}
+use Rattle.model.proofs.Rests.{put_rest}
 use Rattle.model.proofs.Rules.{refused}
 use Rattle.model.proofs.models.Model.put.Goals as goal
 
@@ -26,4 +27,5 @@ returns c =
     let fine = judged _ _ _ _ (sym c.judge_entry.ensures ∙ c.in_ok-pair.was) in
     let space = ne_eqb _ _ (λ full. c.if-self-capacity.false (full ∙ sym c.capacity.ensures)) in
     counted _ _ _ (put_first c.args.self.now _ _ _ _ false false fine c.find.ensures (sym c.if-is_some.ensures) space)
-    (put_turned c.args.self.now.store _ _ _ _ fine c.push.ensures) c.push.ensures.others
+    (put_turned c.args.self.now.store _ _ _ _ fine c.push.ensures)
+    (put_rest c.args.self.now.store _ c.args.i c.args.j c.push.ensures)

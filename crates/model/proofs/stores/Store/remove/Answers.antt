@@ -2,7 +2,8 @@ use Rattle.std.proofs.Common.{◌≤◌, length, sym, subst, refl, ap, ◌∙◌
 use Rattle.std.proofs.lemmas.List.{length-take-le}
 use Rattle.analysis.specs.Tables.{Sound, pairs_of}
 use Rattle.model.specs.Tables.{distinct}
-use Rattle.model.proofs.Entries.{close_gap, distinct_remove, sound_remove}
+use Rattle.model.proofs.Entries.{close_gap, distinct_remove, gap_past, sound_remove}
+use Rattle.model.proofs.Rests.{rest_past}
 use Rattle.model.proofs.stores.Store.remove.Goals as goal
 
 pub invariant_of-self : goal.invariant_of-self
@@ -29,7 +30,9 @@ returns c =
           record {
             order = refl;
             vertices = refl;
+            lent = refl;
             long = simp (length-append, length-drop) (omega (arith, length-take-le s.held s.entries.now fits));
+            rest = λ k. rest_past s.held k _ _ (gap_past _ _ _ _ c.copy_within.ensures.after c.requires.stands fits);
             unanalysed = refl;
           };
       count = omega arith;
