@@ -1,0 +1,2 @@
+-- The law over runs.
+use Rattle.std.specs.Prelude.{ℕ}
