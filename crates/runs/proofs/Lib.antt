@@ -1,2 +1,5 @@
 mod Windows
 mod Stretches
+mod Questions
+mod Below
+mod Counted

@@ -1,4 +1,6 @@
 // Whole runs: what one is lent and what it hands back, and two of them side by side.
+ghost use Rattle.runs.specs.WholeRuns.{Between, Lawful, Ran};
+
 use crate::calls::Call;
 use crate::lending::LentSets;
 use crate::performing::perform;
@@ -30,7 +32,10 @@ pub struct Done<'a, S, A> {
     pub replies: A,
 }
 
-fn make_and_perform<'a, S: LentSets, A: Replies>(given: Run<'a, S, A>) -> Done<'a, S, A> {
+fn make_and_perform<'a, S: LentSets, A: Replies>(given: Run<'a, S, A>) -> Done<'a, S, A>
+    ensures ran { Ran S.meanings given.entry A.took result }
+    ensures lawful { Lawful S.meanings given.entry result }
+{
     let Run {
         order,
         vertices,
@@ -57,6 +62,12 @@ fn make_and_perform<'a, S: LentSets, A: Replies>(given: Run<'a, S, A>) -> Done<'
 pub fn run_both<'a, 'b, S: LentSets, A: Replies, T: LentSets, B: Replies>(
     first: Run<'a, S, A>,
     second: Run<'b, T, B>,
-) -> (Done<'a, S, A>, Done<'b, T, B>) {
+) -> (Done<'a, S, A>, Done<'b, T, B>)
+    ensures first { Ran S.meanings first.entry A.took result.0 }
+    ensures first_law { Lawful S.meanings first.entry result.0 }
+    ensures second { Ran T.meanings second.entry B.took result.1 }
+    ensures second_law { Lawful T.meanings second.entry result.1 }
+    ensures between { Between S.meanings T.meanings first.entry second.entry result.0 result.1 }
+{
     (make_and_perform(first), make_and_perform(second))
 }
