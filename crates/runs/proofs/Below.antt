@@ -40,9 +40,9 @@ module _ (m : Model) where
       let (above, c) = climbs rest in
       let (less, vertex, up) = stepped v w inside is (climb_start c).named in (omega (arith, less, above), up u c)
 
-  lies : (meaning m).analysed ≡ true → {v u : ℕ} → Up u v → (v ≡ u) ⊎ LiesBelow m v u
+  lies : (meaning m).analysed ≡ true → {u v : ℕ} → Up u v → (v ≡ u) ⊎ LiesBelow m v u
   lies analysed (here vertex) = inl refl
-  lies analysed {u = u} (step v vertex c) =
+  lies analysed {u} (step v vertex c) =
       let e = asked_of m parent v analysed (within_from (meaning m).order v vertex) in
       inr
       (elim (lies analysed c) [

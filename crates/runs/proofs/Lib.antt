@@ -3,3 +3,6 @@ mod Stretches
 mod Questions
 mod Below
 mod Counted
+mod Standing
+mod Endings
+mod Lawful

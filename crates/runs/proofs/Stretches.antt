@@ -1,12 +1,12 @@
 -- A stretch of calls, one after another.
 use Rattle.std.proofs.Common.{◌≡◌, ℕ, zero, suc, List, [], ◌∷◌, map, length, Some, None, Option, Result, sym, refl, ap, ap₂, ◌∙◌, subst, arith, min, drop, ◌≤◌}
 use Rattle.std.proofs.lemmas.List.{length-append, length-drop}
-use Rattle.pattern.specs.Structure.{starts, rows}
+use Rattle.pattern.specs.Structure.{over, starts, rows}
 use Rattle.sets.specs.Meaning.{Sets}
 use Rattle.model.specs.Meaning.{meaning}
 use Rattle.model.specs.SetsAfter.{sets_after, settled}
 use Rattle.model.specs.States.{State, Given, Analyse, Structure, answer, first_refusal, if_accepted, pattern_in, step}
-use Rattle.model.specs.Written.{over, starts_after, rows_after}
+use Rattle.model.specs.Written.{starts_after, rows_after}
 use Rattle.model.specs.declared.models.Model.{Model}
 use Rattle.model.specs.declared.refusals.Refusal.{Refusal}
 use Rattle.runs.specs.declared.calls.Call.{Call}

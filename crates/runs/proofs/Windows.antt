@@ -4,10 +4,10 @@ use Rattle.std.proofs.Common.{append_assoc}
 use Rattle.std.proofs.lemmas.Bool.{or_parts, ltb-false, not-false}
 use Rattle.std.proofs.lemmas.List.{take-append-drop, drop-append-le, length-take-le}
 use Rattle.pattern.specs.Elimination.{total}
-use Rattle.pattern.specs.Structure.{starts, rows}
+use Rattle.pattern.specs.Structure.{over, starts, rows}
 use Rattle.pattern.proofs.Columns.{columns}
 use Rattle.model.specs.States.{State, Structure, first_refusal, if_accepted, pattern_in, rules}
-use Rattle.model.specs.Written.{over, starts_after, rows_after}
+use Rattle.model.specs.Written.{starts_after, rows_after}
 use Rattle.model.specs.declared.refusals.Refusal.{Refusal}
 use Rattle.model.proofs.Rules.{unmet}
 

@@ -25,20 +25,8 @@ fn read_number(model: &Model<'_>, question: Question, vertex: u32) -> Result<u32
     }
 }
 
-fn write_structure(model: &Model<'_>, starts: &mut [u32], rows: &mut [u32]) -> Result<(), Refusal>
-    ensures answer { result ≡ told model.now (Structure (length starts.old) (length rows.old)) tt }
-    ensures starts { starts.new
-        ≡ starts_after (meaning model.now) (Structure (length starts.old) (length rows.old)) starts.old }
-    ensures rows { rows.new
-        ≡ rows_after (meaning model.now) (Structure (length starts.old) (length rows.old)) rows.old }
-{
-    starts.fill(0);
-    rows.fill(0);
-    Err(Refusal::NotAnalysed)
-}
-
 // Writes the structure into the first places of the arrays.
-fn write_into(
+fn write_structure(
     model: &Model<'_>,
     long: usize,
     wide: usize,
@@ -53,7 +41,7 @@ fn write_into(
 {
     let long = long.min(starts.len());
     let wide = wide.min(rows.len());
-    write_structure(model, &mut starts[..long], &mut rows[..wide])
+    model.structure(&mut starts[..long], &mut rows[..wide])
 }
 
 // Carries out one call.
@@ -78,7 +66,7 @@ fn carry_out<S: LentSets>(
         Call::Structure {
             starts: long,
             rows: wide,
-        } => write_into(model, long, wide, starts, rows).map(|()| Reply::Written),
+        } => write_structure(model, long, wide, starts, rows).map(|()| Reply::Written),
     }
 }
 

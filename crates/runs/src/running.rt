@@ -33,8 +33,7 @@ pub struct Done<'a, S, A> {
 }
 
 fn make_and_perform<'a, S: LentSets, A: Replies>(given: Run<'a, S, A>) -> Done<'a, S, A>
-    ensures ran { Ran S.meanings given.entry A.took result }
-    ensures lawful { Lawful S.meanings given.entry result }
+    ensures { Ran S.meanings given.entry A.took result }
 {
     let Run {
         order,
