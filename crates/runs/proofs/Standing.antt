@@ -14,6 +14,7 @@ use Rattle.model.specs.Meaning.{meaning}
 use Rattle.model.specs.States.{Structure, first_refusal, if_accepted}
 use Rattle.model.specs.declared.models.Model.{Model}
 use Rattle.model.specs.declared.refusals.Refusal.{Refusal}
+use Rattle.model.proofs.ReadBack.{read_back}
 use Rattle.model.proofs.Rules.{answered}
 use Rattle.runs.specs.Laws.{Rest, Stands, Writes}
 use Rattle.runs.proofs.Counted.{higher_lists}
@@ -45,7 +46,7 @@ module _ (m : Model) (analysed : (meaning m).analysed ≡ true) where
               asked_of m col_count v analysed here,
               omega (arith, ends_at xs v vertex.fits, ends_at xs (v - 1) (omega (arith, vertex.fits)), higher_count p v vertex, taken_next p v vertex),
             );
-        columns = λ v here. (higher p v, ?, higher_lists (meaning m) v);
+        columns = λ v here. (higher p v, read_back p xs ys v here, higher_lists (meaning m) v);
       }
 
   rest : (xs ys : List ℕ) →
