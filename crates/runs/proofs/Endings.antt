@@ -7,7 +7,7 @@ use Rattle.model.specs.States.{State, Given, Put, Drop, Analyse, Question, Total
 use Rattle.model.specs.Written.{starts_accepted, starts_after, rows_accepted, rows_after}
 use Rattle.model.specs.declared.refusals.Refusal.{Refusal}
 use Rattle.runs.specs.declared.calls.Call.{Call}
-use Rattle.runs.specs.Runs.{Lent, account, given, last_accepted, left, left_by}
+use Rattle.runs.specs.Runs.{Lent, account, given, last_accepted, after_call, after_calls}
 use Rattle.runs.specs.WholeRuns.{analyses, changes, ends_with, passes, structures}
 use Rattle.runs.proofs.Windows.{accepted_structure}
 
@@ -29,9 +29,7 @@ calm_step s g = by g (first_refusal s g)
     by (Put i j) None spared = absurd (cc)
     by (Drop i j) None spared = absurd (cc)
     by (Analyse size) None spared = record { pattern = refl; analysed = λ e. refl }
-    by (Question v) None spared = record { pattern = refl; analysed = λ e. e }
-    by Total None spared = record { pattern = refl; analysed = λ e. e }
-    by (Structure long wide) None spared = record { pattern = refl; analysed = λ e. e }
+    by _ None spared = record { pattern = refl; analysed = λ e. e }
 
 -- a call that is no accepted structure call leaves the arrays
 stays : (s : State) (g : Given) (xs ys : List ℕ) → Spared structures s g →
@@ -41,12 +39,8 @@ stays s g xs ys = by g (first_refusal s g)
     by : (g : Given) (o : Option Refusal) → (is_none o && structures g) ≡ false →
         (if_accepted o (starts_accepted s g xs) xs ≡ xs) × (if_accepted o (rows_accepted s g ys) ys ≡ ys)
     by g (Some refusal) spared = (refl, refl)
-    by (Put i j) None spared = (refl, refl)
-    by (Drop i j) None spared = (refl, refl)
-    by (Analyse size) None spared = (refl, refl)
-    by (Question v) None spared = (refl, refl)
-    by Total None spared = (refl, refl)
     by (Structure long wide) None spared = absurd (cc)
+    by _ None spared = (refl, refl)
 
 -- a call spared by a wider kind
 narrower : (a wide narrow : Bool) → (narrow ≡ true → wide ≡ true) → (a && wide) ≡ false → (a && narrow) ≡ false
@@ -90,11 +84,7 @@ module _ (kind : Given → Bool) where
 
 analysed_now : (s : State) (g : Given) → first_refusal s g ≡ None → analyses g ≡ true → (step s g).analysed ≡ true
 analysed_now s (Analyse size) none e = ap (λ o. (if_accepted o (accepted s (Analyse size)) s).analysed) none
-analysed_now s (Put i j) none e = absurd (cc)
-analysed_now s (Drop i j) none e = absurd (cc)
-analysed_now s (Question v) none e = absurd (cc)
-analysed_now s Total none e = absurd (cc)
-analysed_now s (Structure long wide) none e = absurd (cc)
+analysed_now s _ none e = absurd (cc)
 
 -- after a list that ends with an analysis the account is analysed
 pub ends_analysed : (s : State) (gs : List Given) → ends_with analyses s gs ≡ true → (account s gs).analysed ≡ true
@@ -121,36 +111,32 @@ written_now s (Structure a b) xs ys none e =
     (if_accepted o (over (rows (pattern_in s)) ys) ys) in
     let room = accepted_structure s a b none in
     subst After (sym none) (record { analysed = room.analysed; starts_are = (xs, refl); rows_are = (ys, refl) })
-written_now s (Put i j) xs ys none e = absurd (cc)
-written_now s (Drop i j) xs ys none e = absurd (cc)
-written_now s (Analyse size) xs ys none e = absurd (cc)
-written_now s (Question v) xs ys none e = absurd (cc)
-written_now s Total xs ys none e = absurd (cc)
+written_now s _ xs ys none e = absurd (cc)
 
 -- calls that are neither accepted puts or drops nor structure calls leave what is written
 module _ (l : Lent) where
   arrays_stay : (s : State) (cs : List Call) (k : Lent) → last_accepted (Kind structures) s (map (given l) cs) ≡ None →
-      ((left_by l s cs k).starts ≡ k.starts) × ((left_by l s cs k).rows ≡ k.rows)
+      ((after_calls l s cs k).starts ≡ k.starts) × ((after_calls l s cs k).rows ≡ k.rows)
   arrays_stay s [] k none = (refl, refl)
   arrays_stay s (c ∷ cs) k none =
       let g = given l c in
       let (later, spared) = none_left (last_accepted (Kind structures) (step s g) (map (given l) cs))
       (is_none (first_refusal s g) && Kind structures g) g none in
       let now = stays s g k.starts k.rows (narrower _ _ _ (λ e. or_left _ (changes g) e) spared) in
-      let then = arrays_stay (step s g) cs (left s g c k) later in
+      let then = arrays_stay (step s g) cs (after_call s g c k) later in
       (then.0 ∙ now.0, then.1 ∙ now.1)
 
   pub ends_written : (s : State) (cs : List Call) (k : Lent) → ends_with structures s (map (given l) cs) ≡ true →
-      Written (account s (map (given l) cs)) (left_by l s cs k).starts (left_by l s cs k).rows
+      Written (account s (map (given l) cs)) (after_calls l s cs k).starts (after_calls l s cs k).rows
   ends_written s [] k e = absurd (cc)
   ends_written s (c ∷ cs) k e =
       let g = given l c in
       elim (picked structures (last_accepted (Kind structures) (step s g) (map (given l) cs)) _ g e) [
-        | inl later ↦ ends_written (step s g) cs (left s g c k) later
+        | inl later ↦ ends_written (step s g) cs (after_call s g c k) later
         | inr (later, b, is) ↦
             let now = written_now s g k.starts k.rows (accepted_now structures s g b) is in
             let calm = calm structures (step s g) (map (given l) cs) later in
-            let stay = arrays_stay (step s g) cs (left s g c k) later in
+            let stay = arrays_stay (step s g) cs (after_call s g c k) later in
             record {
               analysed = calm.analysed now.analysed;
               starts_are = (

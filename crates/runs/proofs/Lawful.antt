@@ -17,7 +17,7 @@ use Rattle.runs.specs.declared.calls.Reply.{Reply}
 use Rattle.runs.specs.declared.running.Done.{Done}
 use Rattle.runs.specs.declared.running.Run.{Run}
 use Rattle.runs.specs.Laws.{Answers, Grown, LiesBelow, MoreMembers, NoSmaller, Stands}
-use Rattle.runs.specs.Runs.{Lent, left_by}
+use Rattle.runs.specs.Runs.{Lent, after_calls}
 use Rattle.runs.specs.WholeRuns.{Between, Lawful, Ran, account_of, beginning, givens, lent_to}
 use Rattle.runs.proofs.Below.{below_is_led, below_lies, lies_below}
 use Rattle.runs.proofs.Counted.{columns_counted, rows_counted}

@@ -23,8 +23,8 @@ pub record Lent : Type 0 where
   pub starts : List ℕ
   pub rows : List ℕ
 
-abbrev pub lent : List Sets → List ℕ → List ℕ → Lent
-lent sets starts rows = record { sets = sets; starts = starts; rows = rows }
+abbrev pub lending : List Sets → List ℕ → List ℕ → Lent
+lending sets starts rows = record { sets = sets; starts = starts; rows = rows }
 
 -- what a call is given, by what is lent: sizes and lengths alone, which stay as they are throughout the run
 abbrev pub given : Lent → Call → Given
@@ -76,28 +76,25 @@ abbrev pub Replied : {A : Type 0} → (A → Call → Result Reply Refusal → A
 Replied took l s [] p q = p ≡ q
 Replied {A} took l s (c ∷ cs) p q = (j : A) × took p c (reply l s c) j × Replied took l (step s (given l c)) cs j q
 
--- the sets after a call
-abbrev pub sets_left : State → Call → List Sets → List Sets
-sets_left s (calls.Analyse sets) lent = analysed_at s lent sets
-sets_left s (calls.Put i j) lent = lent
-sets_left s (calls.Drop i j) lent = lent
-sets_left s (calls.Ask question vertex) lent = lent
-sets_left s calls.Total lent = lent
-sets_left s (calls.Structure starts rows) lent = lent
+-- what the sets mean after a call
+abbrev pub sets_after_call : State → Call → List Sets → List Sets
+sets_after_call s (calls.Analyse sets) lent = analysed_at s lent sets
+sets_after_call s _ lent = lent
 
--- what a call that is given g leaves of what is lent, and then what calls do
-abbrev pub left : State → Given → Call → Lent → Lent
-left s g c l = lent (sets_left s c l.sets) (starts_after s g l.starts) (rows_after s g l.rows)
+-- what is lent, after a call that is given g
+abbrev pub after_call : State → Given → Call → Lent → Lent
+after_call s g c l = lending (sets_after_call s c l.sets) (starts_after s g l.starts) (rows_after s g l.rows)
 
-abbrev pub left_by : Lent → State → List Call → Lent → Lent
-left_by l s [] k = k
-left_by l s (c ∷ cs) k = left_by l (step s (given l c)) cs (left s (given l c) c k)
+-- and after calls: k is what they find, and l what the run was lent at first
+abbrev pub after_calls : Lent → State → List Call → Lent → Lent
+after_calls l s [] k = k
+after_calls l s (c ∷ cs) k = after_calls l (step s (given l c)) cs (after_call s (given l c) c k)
 
 -- One call took the model from m to n, what is lent from l to k, and is replied r.
 pub record Turned (c : Call) (m n : Model) (l k : Lent) (r : Result Reply Refusal) : Type 0 where
   pub state : meaning n ≡ step (meaning m) (given l c)
   pub reply : r ≡ reply l (meaning m) c
-  pub lent : k ≡ left (meaning m) (given l c) c l
+  pub lent : k ≡ after_call (meaning m) (given l c) c l
   pub table : length n.store.vertices.now ≡ length m.store.vertices.now
 
 -- A stretch of calls took the model from m to n, what is lent from l to k, and the sink from p to q.
@@ -105,5 +102,5 @@ pub record Performed {A : Type 0} (took : A → Call → Result Reply Refusal �
     (m n : Model) (l k : Lent) (p q : A) : Type 0 where
   pub state : meaning n ≡ account (meaning m) (map (given l) cs)
   pub replies : Replied took l (meaning m) cs p q
-  pub lent : k ≡ left_by l (meaning m) cs l
+  pub lent : k ≡ after_calls l (meaning m) cs l
   pub table : length n.store.vertices.now ≡ length m.store.vertices.now

@@ -2,39 +2,28 @@
 use Rattle.std.specs.Prelude.{◌≡◌, Bool, true, false, ◌||◌, List, map, length, Option, Result, Some, None}
 use Rattle.sets.specs.Meaning.{Sets}
 use Rattle.model.specs.Meaning.{meaning}
-use Rattle.model.specs.States.{State, Given, Put, Drop, Analyse, Question, Total, Structure, made}
+use Rattle.model.specs.States.{State, Given, Put, Drop, Analyse, Structure, made}
 use Rattle.model.specs.declared.refusals.Refusal.{Refusal}
 use Rattle.runs.specs.declared.calls.Call.{Call}
 use Rattle.runs.specs.declared.calls.Reply.{Reply}
 use Rattle.runs.specs.declared.running.Done.{Done}
 use Rattle.runs.specs.declared.running.Run.{Run}
 use Rattle.runs.specs.Laws.{Answers, Grown, MoreMembers, Stands}
-use Rattle.runs.specs.Runs.{Lent, lent, given, account, last_accepted, left_by, Replied}
+use Rattle.runs.specs.Runs.{Lent, lending, given, account, last_accepted, after_calls, Replied}
 
 -- a put or a drop, an analysis, a structure call
 abbrev pub changes : Given → Bool
 changes (Put i j) = true
 changes (Drop i j) = true
-changes (Analyse size) = false
-changes (Question v) = false
-changes Total = false
-changes (Structure long wide) = false
+changes _ = false
 
 abbrev pub analyses : Given → Bool
 analyses (Analyse size) = true
-analyses (Put i j) = false
-analyses (Drop i j) = false
-analyses (Question v) = false
-analyses Total = false
-analyses (Structure long wide) = false
+analyses _ = false
 
 abbrev pub structures : Given → Bool
 structures (Structure long wide) = true
-structures (Put i j) = false
-structures (Drop i j) = false
-structures (Analyse size) = false
-structures (Question v) = false
-structures Total = false
+structures _ = false
 
 abbrev pub passes : (Given → Bool) → Option Given → Bool
 passes kind (Some g) = kind g
@@ -47,7 +36,7 @@ ends_with kind s gs = passes kind (last_accepted (λ g. kind g || changes g) s g
 -- what a run is given: the model as it is made of its order and the lengths of its tables, and what its calls are given
 module _ {S A : Type 0} (meanings : S → List Sets) (run : Run S A) where
   abbrev pub lent_to : Lent
-  lent_to = lent (meanings run.sets) run.starts.now run.rows.now
+  lent_to = lending (meanings run.sets) run.starts.now run.rows.now
 
   abbrev pub beginning : State
   beginning = made run.order (length run.vertices.now) (length run.entries.now)
@@ -63,7 +52,9 @@ module _ {S A : Type 0} (meanings : S → List Sets) (run : Run S A) where
   pub record Ran (took : A → Call → Result Reply Refusal → A → Type 0) (done : Done S A) : Type 0 where
     pub state : meaning done.model ≡ account_of
     pub replies : Replied took lent_to beginning run.calls.now run.replies done.replies
-    pub lent : lent (meanings done.sets) done.starts.now done.rows.now ≡ left_by lent_to beginning run.calls.now lent_to
+    pub lent : lending (meanings done.sets) done.starts.now done.rows.now
+        ≡ after_calls lent_to beginning run.calls.now lent_to
+    pub table : length done.model.store.vertices.now ≡ length run.vertices.now
     pub starts : done.starts.ghost_name ≡ run.starts.ghost_name
     pub rows : done.rows.ghost_name ≡ run.rows.ghost_name
 

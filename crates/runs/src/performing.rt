@@ -4,7 +4,7 @@ ghost use Rattle.model.specs.Asked.{asked, told};
 ghost use Rattle.model.specs.Meaning.{meaning};
 ghost use Rattle.model.specs.States.{Structure};
 ghost use Rattle.model.specs.Written.{rows_after, starts_after};
-ghost use Rattle.runs.specs.Runs.{lent, number_of, Performed, Turned};
+ghost use Rattle.runs.specs.Runs.{lending, number_of, Performed, Turned};
 
 use crate::calls::{Call, Question, Reply};
 use crate::lending::LentSets;
@@ -52,13 +52,15 @@ fn carry_out<S: LentSets>(
     starts: &mut [u32],
     rows: &mut [u32],
 ) -> Result<Reply, Refusal>
-    ensures { Turned call model.old model.new (lent (S.meanings sets.old) starts.old rows.old)
-        (lent (S.meanings sets.new) starts.new rows.new) result }
+    ensures { Turned call model.old model.new (lending (S.meanings sets.old) starts.old rows.old)
+        (lending (S.meanings sets.new) starts.new rows.new) result }
 {
     match call {
         Call::Put { i, j } => model.put(i, j).map(|held| Reply::Held(held)),
         Call::Drop { i, j } => model.drop_entry(i, j).map(|held| Reply::Held(held)),
-        Call::Analyse { sets: index } => sets.analyse(index, model).map(|total| Reply::Total(total)),
+        Call::Analyse { sets: index } => sets
+            .analyse(index, model)
+            .map(|total| Reply::Total(total)),
         Call::Ask { question, vertex } => {
             read_number(model, question, vertex).map(|number| Reply::Number(number))
         }
@@ -79,8 +81,8 @@ pub fn perform<S: LentSets, A: Replies>(
     rows: &mut [u32],
     replies: &mut A,
 )
-    ensures { Performed A.took calls.now model.old model.new (lent (S.meanings sets.old) starts.old rows.old)
-        (lent (S.meanings sets.new) starts.new rows.new) replies.old replies.new }
+    ensures { Performed A.took calls.now model.old model.new (lending (S.meanings sets.old) starts.old rows.old)
+        (lending (S.meanings sets.new) starts.new rows.new) replies.old replies.new }
 {
     for call in calls {
         let reply = carry_out(*call, model, sets, starts, rows);

@@ -8,7 +8,6 @@ use crate::sinks::Replies;
 use analysis::records::{Entry, Vertex};
 use model::{Model, make};
 
-
 // What a run is given and lent.
 #[derive(Drop)]
 pub struct Run<'a, S, A> {
