@@ -4,7 +4,7 @@ mod Entries
 mod Judging
 mod Keeping
 pub mod Rests
-mod Rules
+pub mod Rules
 mod Turns
 mod Structures
-mod ReadBack
+pub mod ReadBack

@@ -1,0 +1,4 @@
+pub mod Lending
+pub mod Runs
+pub mod Laws
+pub mod WholeRuns
