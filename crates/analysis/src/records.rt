@@ -9,6 +9,7 @@ use gather::kinds::{GreatestLevel, LeastPlace, Weight};
 // An entry of the pattern, low < high. The link is working storage: the 1-based position of the next entry of a
 // neighbour list, always an earlier one, or 0 at the list's end.
 #[derive(Clone, Copy, Default)]
+#[repr(C)]
 pub struct Entry {
     pub low: u32,
     pub high: u32,
@@ -24,6 +25,7 @@ pub enum End {
 
 // What an analysis finds of one vertex, with its working storage.
 #[derive(Clone, Copy, Default)]
+#[repr(C)]
 pub struct Vertex {
     // The parent in the elimination tree, 0 at a root, and the number of parent steps to the root.
     pub parent: u32,
