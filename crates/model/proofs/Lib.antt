@@ -3,5 +3,5 @@ mod Asking
 mod Entries
 mod Judging
 mod Keeping
-mod Rules
+pub mod Rules
 mod Turns

@@ -1,0 +1,3 @@
+mod Passes
+mod Sounds
+mod Tables

@@ -1,0 +1,21 @@
+-- What an analysis leaves in the storage lent to it.
+use Rattle.std.specs.Prelude.{◌≡◌, ℕ, List, map, length, take, drop}
+use Rattle.analysis.specs.Analysed.{Answered}
+use Rattle.analysis.specs.Tables.{pairs_of}
+use Rattle.analysis.specs.declared.records.Entry.{Entry}
+use Rattle.analysis.specs.declared.records.Vertex.{Vertex}
+use Rattle.downskillet_c.specs.Pairs.{pattern_given, turned}
+
+-- The first n vertices hold the answers, the first entries the pairs, and nothing but these and the first n links has
+-- changed.
+pub record Analysed (n : ℕ) (ps : List (ℕ × ℕ)) (vs ws : List Vertex) (es fs : List Entry) (ks ls : List ℕ) : Type 0 where
+  pub answers : Answered (pattern_given n ps) ws
+  pub pairs : pairs_of (take (length ps) fs) ≡ map turned ps
+  pub other_vertices : drop n ws ≡ drop n vs
+  pub other_entries : drop (length ps) fs ≡ drop (length ps) es
+  pub other_links : drop n ls ≡ drop n ks
+
+pub record Unchanged (vs ws : List Vertex) (es fs : List Entry) (ks ls : List ℕ) : Type 0 where
+  pub vertices : ws ≡ vs
+  pub entries : fs ≡ es
+  pub links : ls ≡ ks
