@@ -1,3 +1,4 @@
 mod Passes
 mod Sounds
 mod Tables
+mod Arrays

@@ -1,3 +1,4 @@
 pub mod Pairs
 pub mod Refusals
 pub mod Analysing
+pub mod Answers

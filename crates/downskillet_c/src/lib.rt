@@ -3,6 +3,8 @@
 #![tactic(auto)]
 
 mod analysing;
+mod answers;
 mod judging;
 mod pairs;
 mod refusals;
+mod sizes;
