@@ -1,18 +1,19 @@
 -- The counts as the pass begins and ends, and their sum.
-use Rattle.std.proofs.Common.{◌≡◌, ℕ, zero, suc, ◌-◌, ◌*◌, ◌^◌, ◌<◌, ◌≤◌, true, ◌&&◌, ◌||◌, eqb, ltb, List, [], ◌∷◌, map, take, length, get_or, sum_by, ℤ, pos, ◌+ℤ◌, ◌-ℤ◌, sym, refl, ap, ◌∙◌, subst, add-one, arith, w64, SFits}
+use Rattle.std.proofs.Common.{◌≡◌, ℕ, zero, suc, ◌-◌, ◌*◌, ◌^◌, ◌<◌, ◌≤◌, true, List, [], ◌∷◌, map, take, length, get_or, sum_by, ℤ, pos, ◌+ℤ◌, ◌-ℤ◌, sym, refl, ap, ◌∙◌, subst, add-one, arith, w64, SFits}
 use Rattle.std.specs.Int.{int_wrap}
 use Rattle.std.proofs.lemmas.Int.{int_wrap_fits as wrapped-fits, int_wrap-add_same, int_wrap-add_right}
 use Rattle.std.proofs.lemmas.List.{take_all}
 use Rattle.std.proofs.lemmas.List.Sums.{sum_by_more}
 use Rattle.std.proofs.lemmas.Bool.{or_left, or_right, eq-eqb, both_ways}
-use Rattle.pattern.specs.Lists.{upto, keep, occurs, sum}
+use Rattle.pattern.specs.Lists.{upto, occurs, sum}
 use Rattle.pattern.specs.Patterns.{Pattern}
-use Rattle.pattern.specs.Elimination.{fill, parent, col, col_count, total}
+use Rattle.pattern.specs.Elimination.{parent, col_count, total}
 use Rattle.pattern.specs.Forest.{children, subtree}
 use Rattle.pattern.specs.Counts.{sum_ℤ}
 use Rattle.pattern.specs.Passes.{weight_so_far}
-use Rattle.pattern.proofs.Lists.{in_keep, keep_grows, sum_next, length_upto}
+use Rattle.pattern.proofs.Lists.{in_keep, sum_next}
 use Rattle.pattern.proofs.Agree.{children_agrees, subtree_agrees}
+use Rattle.pattern.proofs.Columns.{column_fits}
 use Rattle.pattern.proofs.Passes.{happened_none, last_none, row_none, weight_none, passing_none}
 use Rattle.pattern.proofs.Passes.{met_to_none, met_to_end}
 use Rattle.pattern.proofs.PassCounts.{row_passed}
@@ -90,20 +91,6 @@ sum_wraps f g (x ∷ xs) same =
     ∙ sym (int_wrap-add_right w64 (g x) (sum_ℤ f xs))
     ∙ ap (λ s. int_wrap w64 (g x +ℤ s)) i
     ∙ int_wrap-add_right w64 (g x) (sum_ℤ g xs)
-
-keep_all : (xs : List ℕ) → length (keep (λ _. true) xs) ≡ length xs
-unfolding keep
-keep_all [] = refl
-keep_all (x ∷ xs) = ap suc (keep_all xs)
-
--- a column is no longer than the pattern's order
-pub column_fits : (p : Pattern) (v : ℕ) → col_count p v ≤ p.order
-unfolding col_count col
-column_fits p v =
-    let a = keep_grows (λ u. eqb u v || (ltb v u && fill p v u)) (λ _. true) (λ _ _. refl) (upto p.order) in
-    let b = keep_all (upto p.order) in
-    let c = length_upto p.order in
-    omega arith
 
 -- all events have happened, and the weights are gathered
 counted_all : (p : Pattern) (vs ws : List Vertex) → p.order ≤ 16384 → Ready p vs → Counting p p.order vs →

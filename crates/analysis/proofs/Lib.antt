@@ -6,6 +6,7 @@ pub mod Orders
 pub mod Tops
 pub mod SettledTops
 mod Phases
+mod Structures
 pub mod CountedTables
 pub mod CountedEvents
 pub mod CountedEnds

@@ -66,6 +66,20 @@ answered p vs ws s only counts =
       columns = counts.columns;
     }
 
+-- new lists leave the answers
+pub answered_listed : (p : Pattern) (vs ws : List Vertex) → Only head_from vs ws → Answered p vs → Answered p ws
+answered_listed p vs ws only answers =
+    record {
+      parents = λ v q r. ap (λ x. x.parent) (only v) ∙ answers.parents v q r;
+      places = λ v q r. ap (λ x. x.place) (only v) ∙ answers.places v q r;
+      firsts = λ v q r. ap (λ x. x.first.0) (only v) ∙ answers.firsts v q r;
+      heights = λ v q r.
+          ap (λ l. l + height_of p v) (ap (λ x. x.level) (only v)) ∙ answers.heights v q r
+          ∙ sym (ap (λ x. x.deepest.0) (only v));
+      rows = λ v q r. ap (λ x. x.rows) (only v) ∙ answers.rows v q r;
+      columns = λ v q r. ap (λ x. x.weight.0) (only v) ∙ answers.columns v q r;
+    }
+
 -- the answers stand in the whole table, of which the vertices are the front
 module _ (p : Pattern) (vs rest : List Vertex) (long : p.order ≤ length vs) where
   front_same : {X : Type 0} (field : Vertex → X) (v : ℕ) → 1 ≤ v → v ≤ p.order →

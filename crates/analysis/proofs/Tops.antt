@@ -130,6 +130,11 @@ module _ (n : ℕ) (es : List Entry) (u k : ℕ) (sound : tables.Sound n (pairs_
       subst (λ w. shares (pattern_of n es) (entry es (k - 1)).low w ≡ true) (met.ends (k - 1) (omega arith))
       (subst (λ q. shares (pattern_of n es) q.0 q.1 ≡ true) (sym at) h)
 
+  -- a lower neighbour is taken from the list
+  pub taken_shares : (e : Entry) (q : ℕ) → Met High n es u k → Taken es k e q → shares (pattern_of n es) e.low u ≡ true
+  taken_shares e q met taken =
+      subst (λ x. shares (pattern_of n es) x.low u ≡ true) (sym taken.is) (met_shares met taken.some)
+
   -- the row begins at the head of the list
   pub row_at_head : (vs : List Vertex) (P T : ℕ → ℕ) → Linked High n (pairs_of es) (length es) vs es →
       1 ≤ u → u ≤ n → k ≡ (vertex vs u).head → AfterRows (pattern_of n es) (u - 1) P T → RowAt n es u k P T
@@ -146,9 +151,6 @@ module _ (n : ℕ) (es : List Entry) (u k : ℕ) (sound : tables.Sound n (pairs_
     low : (1 ≤ e.low) × (e.low < u)
     low = lower_at n es u k q e sound row.met taken
 
-    taken_shares : shares (pattern_of n es) e.low u ≡ true
-    taken_shares = subst (λ x. shares (pattern_of n es) x.low u ≡ true) (sym taken.is) (met_shares row.met taken.some)
-
     here : T' (entry es (k - 1)).low ≡ u
     here = ap (λ x. T' x.low) (sym taken.is) ∙ adopts_taken n e.low u P T P' T' adopts low.0 (omega (arith, low.1, fits))
 
@@ -156,7 +158,8 @@ module _ (n : ℕ) (es : List Entry) (u k : ℕ) (sound : tables.Sound n (pairs_
     row_at_link =
         record {
           met = met_link High n vs es u k q e linked row.met taken;
-          in_row = row_step (pattern_of n es) (u - 1) u e.low P T P' T' low.1 taken_shares row.in_row adopts;
+          in_row = row_step (pattern_of n es) (u - 1) u e.low P T P' T' low.1
+              (taken_shares e q row.met taken) row.in_row adopts;
           taken = λ j past h f. elim (cases_lt j (k - 1)) [
             | inl older ↦ absurd (link_last High n vs es u k q e linked row.met taken j past older f)
             | inr at ↦ elim (cases_eq j (k - 1)) [

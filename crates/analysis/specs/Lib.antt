@@ -5,3 +5,4 @@ pub mod Order
 pub mod Counts
 pub mod Analysed
 pub mod Settling
+pub mod Structure

@@ -162,7 +162,7 @@ pub fn count<S: AncestorSets>(vertices: &mut [Vertex], entries: &[Entry], sets: 
 }
 
 // The column count of a vertex, once the weights are gathered.
-fn column_count(vertex: &Vertex) -> u64
+pub(crate) fn column_count(vertex: &Vertex) -> u64
     ensures { result ≡ column_of vertex.now.weight.0 }
 {
     vertex.weight.0.max(0) as u64

@@ -13,6 +13,7 @@ pub mod nodes;
 pub mod order;
 pub mod records;
 pub mod settling;
+pub mod structure;
 #[cfg(test)]
 mod tests;
 pub mod tree;
@@ -54,5 +55,7 @@ pub fn analyse<S: AncestorSets>(
     link_by(End::Low, vertices, entries);
     sets.start(n).unwrap();
     count(vertices, entries, sets);
-    Ok(total(vertices))
+    let total = total(vertices);
+    link_by(End::High, vertices, entries);
+    Ok(total)
 }

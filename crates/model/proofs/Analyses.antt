@@ -30,7 +30,7 @@ use Rattle.model.specs.declared.stores.Store.{Store}
 use Rattle.model.specs.Analysing.{Analysed, Refused, Settled, Unsettled}
 use Rattle.model.specs.Meaning.{meaning, Outcome}
 use Rattle.model.specs.SetsAfter.{SameSets, settled as settled_sets, sets_after}
-use Rattle.model.specs.States.{State, Analyse, pattern_in, if_accepted, empty, first_of, first_refusal}
+use Rattle.model.specs.States.{Analyse, pattern_in, if_accepted, empty, first_of, first_refusal}
 use Rattle.model.specs.Stored.{held_by, means}
 use Rattle.model.proofs.Keeping.{same_model, same_store}
 use Rattle.model.proofs.Rules.{none_of, refused}

@@ -14,7 +14,7 @@ use Rattle.model.specs.Meaning.{meaning}
 use Rattle.model.specs.States.{Question, answer, rules}
 use Rattle.model.proofs.Keeping.{within_from}
 use Rattle.model.proofs.Rules.{answered, unmet}
-use Rattle.analysis.proofs.CountedEnds.{column_fits}
+use Rattle.pattern.proofs.Columns.{column_fits}
 
 -- an option that holds a value
 holds : (o : Option ℕ) → is_some o ≡ true → (x : ℕ) × (o ≡ Some x)

@@ -4,14 +4,16 @@ use mathlib.Core.HLevel.{is_prop→PathP}
 use Rattle.std.proofs.Props.{props}
 use Rattle.std.proofs.lemmas.Bool.{and_parts, leb-true}
 use Rattle.std.specs.Option.{ForSome}
+use Rattle.analysis.specs.declared.records.End.TheVariants.{High}
 use Rattle.analysis.specs.Analysed.{Answered}
+use Rattle.analysis.specs.Links.{Listed}
 use Rattle.analysis.specs.Tables.{Sound, pairs_of}
 use Rattle.pattern.specs.Elimination.{total}
 use Rattle.pattern.specs.Patterns.{within}
 use Rattle.model.specs.declared.models.Model.{Model}
 use Rattle.model.specs.declared.stores.Store.{Store}
 use Rattle.model.specs.States.{largest_order, most_entries, pattern_in}
-use Rattle.model.specs.Stored.{means}
+use Rattle.model.specs.Stored.{held_by, means}
 use Rattle.model.specs.Tables.{distinct}
 
 -- stores of equal fields are the same
@@ -46,6 +48,10 @@ same_model m n e =
       answered =
           is_prop→PathP (λ k. ForSome (e k).total (λ sum. Answered (pattern_in (means (e k))) (e k).vertices.now))
           (λ k. hlevel props) m.answered n.answered k;
+      listed =
+          is_prop→PathP
+          (λ k. ForSome (e k).total (λ _. Listed High (take (e k).order (e k).vertices.now) (held_by (e k))))
+          (λ k. hlevel props) m.listed n.listed k;
       sums =
           is_prop→PathP (λ k. ForSome (e k).total (λ sum. sum ≡ total (pattern_in (means (e k)))))
           (λ k. hlevel props) m.sums n.sums k;

@@ -5,3 +5,4 @@ mod Judging
 mod Keeping
 pub mod Rules
 mod Turns
+mod Structures

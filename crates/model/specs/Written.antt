@@ -1,11 +1,7 @@
 -- What the two arrays lent for the structure hold after a call.
-use Rattle.std.specs.Prelude.{ℕ, List, ◌++◌, length, drop}
-use Rattle.pattern.specs.Structure.{starts, rows}
+use Rattle.std.specs.Prelude.{ℕ, List}
+use Rattle.pattern.specs.Structure.{starts, rows, over}
 use Rattle.model.specs.States.{State, Given, Put, Drop, Analyse, Question, Total, Structure, if_accepted, first_refusal, pattern_in}
-
--- xs in the first places, and after them what stood there
-abbrev pub over : List ℕ → List ℕ → List ℕ
-over xs before = xs ++ drop (length xs) before
 
 abbrev pub starts_accepted : State → Given → List ℕ → List ℕ
 starts_accepted s (Structure long wide) before = over (starts (pattern_in s)) before

@@ -3,7 +3,8 @@ ghost use Rattle.std.specs.Prelude.{◌≡◌, [], ◌∷◌};
 ghost use Rattle.pattern.specs.Elimination.{total};
 ghost use Rattle.model.specs.Asked.{pattern_held, told};
 ghost use Rattle.model.specs.Meaning.{meaning};
-ghost use Rattle.model.specs.States.{Question, answer, empty, entry_rules, first_of, outside, unanalysed};
+ghost use Rattle.model.specs.States.{Question, Structure, answer, empty, entry_rules, first_of};
+ghost use Rattle.model.specs.States.{outside, unanalysed};
 ghost use Rattle.model.specs.Tables.{sorted};
 
 use crate::models::Model;
@@ -58,6 +59,19 @@ impl Model<'_> {
         self.judge_made()?;
         self.judge_vertex(v, Side::First)?;
         self.judge_analysed()?;
+        Ok(())
+    }
+
+    // Whether arrays of these lengths can take the structure.
+    pub(crate) fn judge_structure(&self, starts: usize, rows: usize) -> Result<(), Refusal>
+        ensures { result ≡ told self.now (Structure starts rows) tt }
+    {
+        self.judge_made()?;
+        let total = self.judge_analysed()?;
+        let order = self.store.order;
+        if starts <= order as usize || (rows as u64) < total - order as u64 {
+            return Err(Refusal::ArraysTooShort);
+        }
         Ok(())
     }
 }

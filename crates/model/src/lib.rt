@@ -4,6 +4,7 @@
 
 mod analysing;
 mod changes;
+mod columns;
 mod judges;
 mod making;
 mod models;
@@ -13,9 +14,11 @@ mod questions;
 mod reading;
 mod refusals;
 mod stores;
+mod structure;
 #[cfg(test)]
 mod tests;
 
+pub use columns::Columns;
 pub use making::{judge, make};
 pub use models::Model;
 pub use refusals::{Refusal, Side};

@@ -1,5 +1,5 @@
 // What a model accepts and refuses, at the edges of each rule.
-use crate::{Refusal, Side, judge, make};
+use crate::{Columns, Refusal, Side, judge, make};
 use analysis::records::{Entry, Vertex};
 use sets::{AncestorSets, HalvedLinks, WrittenTops};
 
@@ -127,4 +127,55 @@ fn analysed_again(rt: HostRuntime) {
     assert_eq!(rt; model.analyse(&mut few_sets), Err(Refusal::SetsTooSmall));
     assert_eq!(rt; few_sets.find(1), None);
     assert_eq!(rt; model.total(), Ok(4));
+}
+
+// The bay: parents 4 3 5 6 6 0. The arrays are longer than the structure, and keep what they hold after it.
+#[test]
+fn structure(rt: HostRuntime) {
+    let mut vertices = [Vertex::new(); 6];
+    let mut entries = [Entry::new(); 5];
+    let mut numbers = [0; 6];
+    let mut model = make(6, &mut vertices, &mut entries);
+    let mut sets = HalvedLinks::new(&mut numbers);
+    let mut starts = [90; 9];
+    let mut rows = [80; 9];
+    assert_eq!(rt; model.put(1, 4), Ok(1));
+    assert_eq!(rt; model.put(3, 2), Ok(2));
+    assert_eq!(rt; model.put(2, 5), Ok(3));
+    assert_eq!(rt; model.put(6, 3), Ok(4));
+    assert_eq!(rt; model.put(4, 6), Ok(5));
+    assert_eq!(rt;
+        model.structure(&mut starts[..6], &mut rows),
+        Err(Refusal::NotAnalysed)
+    );
+    assert_eq!(rt; model.analyse(&mut sets), Ok(13));
+    assert_eq!(rt;
+        model.structure(&mut starts[..6], &mut rows),
+        Err(Refusal::ArraysTooShort)
+    );
+    assert_eq!(rt;
+        model.structure(&mut starts, &mut rows[..6]),
+        Err(Refusal::ArraysTooShort)
+    );
+    assert_eq!(rt; rows, [80; 9]);
+    assert_eq!(rt; model.structure(&mut starts[..7], &mut rows[..7]), Ok(()));
+    assert_eq!(rt; starts, [0, 1, 3, 5, 6, 7, 7, 90, 90]);
+    assert_eq!(rt; rows, [4, 3, 5, 5, 6, 6, 6, 80, 80]);
+    let columns = Columns::new(&starts[..7], &rows);
+    assert_eq!(rt; columns.column(0), None);
+    assert_eq!(rt; columns.column(2), Some(&rows[1..3]));
+    assert_eq!(rt; columns.column(6), Some(&rows[7..7]));
+    assert_eq!(rt; columns.column(7), None);
+}
+
+// Starts that fall, or end after the rows, have no such column.
+#[test]
+fn strange_columns(rt: HostRuntime) {
+    let starts = [2, 1, 3, 9];
+    let rows = [1, 2, 3];
+    let columns = Columns::new(&starts, &rows);
+    assert_eq!(rt; columns.column(1), None);
+    assert_eq!(rt; columns.column(2), Some(&rows[1..3]));
+    assert_eq!(rt; columns.column(3), None);
+    assert_eq!(rt; columns.column(4), None);
 }

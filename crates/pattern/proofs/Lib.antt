@@ -10,6 +10,9 @@ pub mod Rows
 pub mod Crowns
 pub mod Lined
 pub mod Columns
+pub mod Cursors
+pub mod Filling
+pub mod Arrays
 pub mod Theorems
 pub mod Tallies
 pub mod Forest

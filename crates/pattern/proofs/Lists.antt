@@ -111,6 +111,11 @@ unfolding keep
 keep_grows s t more [] = omega arith
 keep_grows s t more (x ∷ xs) = let m = more x in let i = keep_grows s t more xs in grind (arith, nat_tests)
 
+pub keep_all : (xs : List ℕ) → length (keep (λ _. true) xs) ≡ length xs
+unfolding keep
+keep_all [] = refl
+keep_all (x ∷ xs) = ap suc (keep_all xs)
+
 pub sum_grows : (f g : ℕ → ℕ) → ((x : ℕ) → f x ≤ g x) → (xs : List ℕ) → sum f xs ≤ sum g xs
 unfolding sum
 sum_grows f g more [] = omega arith

@@ -6,6 +6,7 @@ pub mod Analysis
 pub mod Paths
 pub mod Fill
 pub mod Structure
+pub mod Filling
 pub mod Crowns
 pub mod Frames
 pub mod Walks

@@ -1,5 +1,5 @@
 -- The factor's structure in columns: where each column starts, and its rows, column after column.
-use Rattle.std.specs.Prelude.{◌≡◌, ℕ, zero, suc, ◌+◌, ◌-◌, ◌<◌, true, ◌&&◌, List, ◌∷◌, map, length, nat_lt, slice_index_or, slice_range}
+use Rattle.std.specs.Prelude.{◌≡◌, ℕ, zero, suc, ◌+◌, ◌-◌, ◌<◌, true, ◌&&◌, List, ◌∷◌, ◌++◌, map, length, drop, nat_lt, slice_index_or, slice_range}
 use Rattle.pattern.specs.Lists.{upto, keep, each}
 use Rattle.pattern.specs.Patterns.{Pattern, within}
 use Rattle.pattern.specs.Elimination.{fill, col, col_count, total}
@@ -20,6 +20,10 @@ starts p = 0 ∷ map (taken p) (upto p.order)
 -- column after column, each without its own vertex
 unfoldable pub rows : Pattern → List ℕ
 rows p = each (higher p) (upto p.order)
+
+-- an array with xs in its first places, and after them what stood there
+abbrev pub over : List ℕ → List ℕ → List ℕ
+over xs before = xs ++ drop (length xs) before
 
 -- from each column's start to the next stand its rows
 pub record InColumns (p : Pattern) : Type 0 where

@@ -1,10 +1,12 @@
-use Rattle.std.proofs.Common.{ap, ◌∙◌, subst, arith, rules, length, drop}
-use Rattle.std.proofs.lemmas.List.{length-take-le}
+use Rattle.std.proofs.Common.{sym, ap, ◌∙◌, subst, arith, rules, length, drop}
+use Rattle.std.proofs.lemmas.List.{length-take-le, take_at}
 use Rattle.pattern.specs.Elimination as elimination
+use Rattle.analysis.specs.declared.records.End.TheVariants.{High}
+use Rattle.analysis.specs.Links.{Listed}
 use Rattle.analysis.specs.Growth.{pattern_of, pattern_in}
 use Rattle.analysis.specs.Counts.{TopsAreRoots}
 use Rattle.analysis.specs.Analysed.{Answered}
-use Rattle.analysis.proofs.Phases.{same_pattern, Settled, settled, ready, answered, answered_front}
+use Rattle.analysis.proofs.Phases.{same_pattern, Settled, settled, ready, answered, answered_listed, answered_front}
 use Rattle.analysis.proofs.analyse.Given as given
 use Rattle.analysis.proofs.analyse.Goals as goal
 use Rattle.analysis.proofs.analyse.Goals.{After-link_by-2}
@@ -32,6 +34,8 @@ returns g c =
     let vs = c.link_by-2.new.vertices in
     let gs = c.link_by-2.new.entries in
     let counted = c.count.new.vertices in
+    let relinked = c.link_by-3.new.vertices in
+    let rest = drop n c.args.vertices.now in
     let front = length-take-le n c.args.vertices.now c.requires.within in
     let pairs = c.link_by-2.ensures.pairs ∙ c.link_by.ensures.pairs in
     let same = same_pattern n (length vs) es gs (omega arith) pairs in
@@ -39,10 +43,14 @@ returns g c =
     c.count.ensures.counted in
     record {
       room = search rules;
-      pairs = pairs;
+      pairs = c.link_by-3.ensures.pairs ∙ pairs;
       size = search rules;
       tops = subst (λ p. TopsAreRoots p (g.S.AncestorSets.meaning c.count.new.sets)) same c.count.ensures.tops;
-      answers = answered_front (pattern_of n es) counted (drop n c.args.vertices.now) (omega arith)
-          (subst (λ p. Answered p counted) same all);
-      sums = c.total.ensures (pattern_in vs gs) (omega arith) c.count.ensures.counted ∙ ap elimination.total same;
+      answers = answered_front (pattern_of n es) relinked rest (omega arith)
+          (answered_listed (pattern_of n es) counted relinked c.link_by-3.ensures.only
+          (subst (λ p. Answered p counted) same all));
+      lists = subst (λ ws. Listed High ws c.link_by-3.new.entries) (sym (take_at relinked rest n (omega arith)))
+          c.link_by-3.ensures.lists;
+      sums = c.total-total.ensures (pattern_in vs gs) (omega arith) c.count.ensures.counted
+          ∙ ap elimination.total same;
     }
