@@ -5,8 +5,8 @@
  * and the place that mirrors it; the diagonal is taken to be there.
  *
  * Every call answers a number: DOWNSKILLET_OK, or why it is refused. Where several refusals would fit, the smallest
- * number is answered. A call that is refused writes nothing. All of this, and every value written, is proved of the
- * library's code, for every input that keeps to the four rules of C below.
+ * number is answered. A call that is refused writes nothing, but for one case that downskillet_structure names. All of
+ * this, and every value written, is proved of the library's code, for every input that keeps to the rules of C below.
  *
  * - All memory is the caller's, before and after a call: the library allocates nothing, keeps no pointer and has no
  *   state. So calls on different memory may run at once in different threads.
@@ -35,7 +35,7 @@ extern "C" {
 #define DOWNSKILLET_VERTEX_OUT_OF_RANGE 10 /* a pair names 0 or a number above the order */
 #define DOWNSKILLET_EQUAL_VERTICES 11      /* a pair names one vertex twice */
 #define DOWNSKILLET_TOO_MANY_PAIRS 13      /* there are more pairs than entries, or than DOWNSKILLET_MOST_PAIRS */
-#define DOWNSKILLET_ARRAY_TOO_SHORT 16     /* an array for answers has too few places */
+#define DOWNSKILLET_ARRAY_TOO_SHORT 16     /* an array for answers or for the structure has too few places */
 
 /* Sizes of the records, for callers that lend plain memory; it is aligned to 8 bytes for vertices, 4 for entries. */
 #define DOWNSKILLET_VERTEX_BYTES 48
@@ -96,6 +96,21 @@ uint32_t downskillet_heights(const downskillet_vertex *vertices, size_t order, u
 /* How many places the row, and the column, of the factor has, diagonal included. */
 uint32_t downskillet_row_counts(const downskillet_vertex *vertices, size_t order, uint32_t *counts, size_t length);
 uint32_t downskillet_column_counts(const downskillet_vertex *vertices, size_t order, uint32_t *counts, size_t length);
+
+/* The structure of the factor, for the pairs that the entries hold, as an analysis leaves them or as a caller writes
+ * them: where each column starts in the rows, and its rows, without the diagonal. It analyses them anew, since the
+ * tables lent could hold anything, and that takes little beside the structure.
+ *
+ * starts     at least order + 1 numbers; afterwards starts[v - 1] is where column v starts, the first at 0, and
+ *            starts[order] is where the rows end.
+ * rows       at least total - order numbers, for the total that an analysis tells; afterwards
+ *            rows[starts[v - 1]] to rows[starts[v] - 1] are the rows of column v, vertices above v, ascending.
+ *
+ * Refused by 8, 9, 10, 11 and 13, and by 16 if starts or rows has fewer places; then the vertices, entries and links
+ * are as an accepted analysis leaves them, and the starts and rows as they were. */
+uint32_t downskillet_structure(uint32_t order, downskillet_vertex *vertices, size_t vertex_count,
+                               downskillet_entry *entries, size_t entry_count, uint32_t *links, size_t link_count,
+                               uint32_t *starts, size_t start_count, uint32_t *rows, size_t row_count);
 
 #ifdef __cplusplus
 }

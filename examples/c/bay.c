@@ -1,6 +1,7 @@
 /* The bay of six joints and five members, from C: prints what its factor will need. */
 #include "downskillet.h"
 #include <stdio.h>
+#include <stdlib.h>
 
 #define ORDER 6
 #define PAIRS 5
@@ -10,10 +11,24 @@ static int end(uint32_t refusal) {
     return 1;
 }
 
-static void show(const char *name, const uint32_t *numbers) {
+static void show(const char *name, const uint32_t *numbers, size_t count) {
     printf("%-13s", name);
-    for (int k = 0; k < ORDER; k++) printf(" %u", numbers[k]);
+    for (size_t k = 0; k < count; k++) printf(" %u", numbers[k]);
     printf("\n");
+}
+
+static int show_structure(downskillet_vertex *vertices, downskillet_entry *entries, uint32_t *links, size_t row_count) {
+    uint32_t starts[ORDER + 1];
+    uint32_t *rows = malloc((row_count + 1) * sizeof *rows);
+    if (!rows) return 1;
+    uint32_t refusal = downskillet_structure(ORDER, vertices, ORDER, entries, PAIRS, links, ORDER, starts, ORDER + 1,
+                                             rows, row_count);
+    if (refusal == DOWNSKILLET_OK) {
+        show("starts", starts, ORDER + 1);
+        show("rows", rows, row_count);
+    }
+    free(rows);
+    return refusal == DOWNSKILLET_OK ? 0 : end(refusal);
 }
 
 typedef uint32_t copy(const downskillet_vertex *, size_t, uint32_t *, size_t);
@@ -44,8 +59,8 @@ int main(void) {
         uint32_t numbers[ORDER];
         refusal = answers[a].answer(vertices, ORDER, numbers, ORDER);
         if (refusal != DOWNSKILLET_OK) return end(refusal);
-        show(answers[a].name, numbers);
+        show(answers[a].name, numbers, ORDER);
     }
     printf("%-13s %llu\n", "total", (unsigned long long)total);
-    return 0;
+    return show_structure(vertices, entries, links, (size_t)total - ORDER);
 }

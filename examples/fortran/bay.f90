@@ -19,6 +19,7 @@ program bay
     call show("row counts", downskillet_row_counts)
     call show("column counts", downskillet_column_counts)
     print "(a, i0)", "total         ", total
+    call show_structure(int(total) - order)
 
 contains
 
@@ -38,5 +39,14 @@ contains
         call accept(answer(vertices, int(order, c_size_t), numbers, int(order, c_size_t)))
         padded = name
         print "(a13, *(1x, i0))", padded, numbers
+    end subroutine
+
+    subroutine show_structure(row_count)
+        integer, intent(in) :: row_count
+        integer(c_int32_t) :: starts(order + 1), rows(row_count)
+        call accept(downskillet_structure(order, vertices, int(order, c_size_t), entries, int(members, c_size_t), &
+            links, int(order, c_size_t), starts, int(order + 1, c_size_t), rows, int(row_count, c_size_t)))
+        print "(a, *(1x, i0))", "starts       ", starts
+        print "(a, *(1x, i0))", "rows         ", rows
     end subroutine
 end program

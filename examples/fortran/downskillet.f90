@@ -40,6 +40,16 @@ module downskillet
             integer(c_int64_t), intent(inout) :: total
             integer(c_int32_t) :: refusal
         end function
+
+        function downskillet_structure(order, vertices, vertex_count, entries, entry_count, links, link_count, &
+                starts, start_count, rows, row_count) bind(c) result(refusal)
+            import :: c_int32_t, c_int64_t, c_size_t, vertex_numbers, entry_numbers
+            integer(c_int32_t), value :: order
+            integer(c_size_t), value :: vertex_count, entry_count, link_count, start_count, row_count
+            integer(c_int64_t), intent(inout) :: vertices(vertex_numbers, *)
+            integer(c_int32_t), intent(inout) :: entries(entry_numbers, *), links(*), starts(*), rows(*)
+            integer(c_int32_t) :: refusal
+        end function
     end interface
 
     abstract interface

@@ -27,6 +27,10 @@ unsafe extern "C" {
         order: u32, pairs: *const u32, pair_count: usize, vertices: *mut Vertex, vertex_count: usize,
         entries: *mut Entry, entry_count: usize, links: *mut u32, link_count: usize, total: *mut u64,
     ) -> u32;
+    fn downskillet_structure(
+        order: u32, vertices: *mut Vertex, vertex_count: usize, entries: *mut Entry, entry_count: usize,
+        links: *mut u32, link_count: usize, starts: *mut u32, start_count: usize, rows: *mut u32, row_count: usize,
+    ) -> u32;
     fn downskillet_parents(vertices: *const Vertex, order: usize, parents: *mut u32, length: usize) -> u32;
     fn downskillet_places(vertices: *const Vertex, order: usize, places: *mut u32, length: usize) -> u32;
     fn downskillet_first_places(vertices: *const Vertex, order: usize, places: *mut u32, length: usize) -> u32;
@@ -35,38 +39,81 @@ unsafe extern "C" {
     fn downskillet_column_counts(vertices: *const Vertex, order: usize, counts: *mut u32, length: usize) -> u32;
 }
 
-// The records and the total of the pattern with these pairs, or the number of a refusal.
-fn analyse(pairs: &[[u32; 2]]) -> Result<([Vertex; ORDER], u64), u32> {
-    let mut vertices = [Vertex::default(); ORDER];
-    let mut entries = vec![Entry::default(); pairs.len()];
-    let (mut links, mut total) = ([0; ORDER], 0);
-    let refusal = unsafe {
-        downskillet_analyse(
-            ORDER as u32,
-            pairs.as_ptr().cast(),
-            pairs.len(),
-            vertices.as_mut_ptr(),
-            ORDER,
-            entries.as_mut_ptr(),
-            entries.len(),
-            links.as_mut_ptr(),
-            ORDER,
-            &mut total,
-        )
-    };
-    if refusal == 0 { Ok((vertices, total)) } else { Err(refusal) }
+// The tables that are lent for one pattern.
+struct Tables {
+    vertices: [Vertex; ORDER],
+    entries: Vec<Entry>,
+    links: [u32; ORDER],
 }
 
-fn copy(answer: Answer, vertices: &[Vertex; ORDER]) -> Result<[u32; ORDER], u32> {
-    let mut numbers = [0; ORDER];
-    let refusal = unsafe { answer(vertices.as_ptr(), ORDER, numbers.as_mut_ptr(), ORDER) };
-    if refusal == 0 { Ok(numbers) } else { Err(refusal) }
+fn accept(refusal: u32) -> Result<(), u32> {
+    if refusal == 0 { Ok(()) } else { Err(refusal) }
+}
+
+impl Tables {
+    fn new(pairs: usize) -> Tables {
+        Tables { vertices: [Vertex::default(); ORDER], entries: vec![Entry::default(); pairs], links: [0; ORDER] }
+    }
+
+    // The total of the pattern with these pairs.
+    fn analyse(&mut self, pairs: &[[u32; 2]]) -> Result<u64, u32> {
+        let mut total = 0;
+        accept(unsafe {
+            downskillet_analyse(
+                ORDER as u32,
+                pairs.as_ptr().cast(),
+                pairs.len(),
+                self.vertices.as_mut_ptr(),
+                ORDER,
+                self.entries.as_mut_ptr(),
+                self.entries.len(),
+                self.links.as_mut_ptr(),
+                ORDER,
+                &mut total,
+            )
+        })?;
+        Ok(total)
+    }
+
+    fn copy(&self, answer: Answer) -> Result<[u32; ORDER], u32> {
+        let mut numbers = [0; ORDER];
+        accept(unsafe { answer(self.vertices.as_ptr(), ORDER, numbers.as_mut_ptr(), ORDER) })?;
+        Ok(numbers)
+    }
+
+    fn structure(&mut self, total: u64) -> Result<(Vec<u32>, Vec<u32>), u32> {
+        let (mut starts, mut rows) = (vec![0; ORDER + 1], vec![0; total as usize - ORDER]);
+        accept(unsafe {
+            downskillet_structure(
+                ORDER as u32,
+                self.vertices.as_mut_ptr(),
+                ORDER,
+                self.entries.as_mut_ptr(),
+                self.entries.len(),
+                self.links.as_mut_ptr(),
+                ORDER,
+                starts.as_mut_ptr(),
+                starts.len(),
+                rows.as_mut_ptr(),
+                rows.len(),
+            )
+        })?;
+        Ok((starts, rows))
+    }
+}
+
+fn show(name: &str, numbers: &[u32]) {
+    print!("{name:13}");
+    numbers.iter().for_each(|number| print!(" {number}"));
+    println!();
 }
 
 fn main() -> Result<(), u32> {
     let sizes = unsafe { (downskillet_vertex_bytes(), downskillet_entry_bytes()) };
     assert_eq!(sizes, (size_of::<Vertex>(), size_of::<Entry>()), "the library is not that of this program");
-    let (vertices, total) = analyse(&[[1, 4], [3, 2], [2, 5], [6, 3], [4, 6]])?;
+    let pairs = [[1, 4], [3, 2], [2, 5], [6, 3], [4, 6]];
+    let mut tables = Tables::new(pairs.len());
+    let total = tables.analyse(&pairs)?;
     let answers: [(&str, Answer); 6] = [
         ("parents", downskillet_parents),
         ("places", downskillet_places),
@@ -76,10 +123,11 @@ fn main() -> Result<(), u32> {
         ("column counts", downskillet_column_counts),
     ];
     for (name, answer) in answers {
-        print!("{name:13}");
-        copy(answer, &vertices)?.iter().for_each(|number| print!(" {number}"));
-        println!();
+        show(name, &tables.copy(answer)?);
     }
     println!("{:13} {total}", "total");
+    let (starts, rows) = tables.structure(total)?;
+    show("starts", &starts);
+    show("rows", &rows);
     Ok(())
 }

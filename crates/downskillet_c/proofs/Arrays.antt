@@ -5,14 +5,14 @@ use Rattle.std.proofs.lemmas.Bool.{ltb-false}
 use Rattle.std.proofs.lemmas.Grind.{same_number_lists}
 use Rattle.std.proofs.lemmas.List.{length-map, length-take-le, get_or-map, get_or-take, take-append-drop}
 use Rattle.pattern.specs.Patterns.{Pattern}
+use Rattle.pattern.specs.Structure.{over}
 use Rattle.pattern.specs.Lists.{upto}
 use Rattle.pattern.proofs.Lists.{get_or_upto, length_upto}
 use Rattle.pattern.specs.Elimination.{col_count}
-use Rattle.analysis.proofs.CountedEnds.{column_fits}
+use Rattle.pattern.proofs.Columns.{column_fits}
 use Rattle.analysis.specs.Counts.{column_of}
 use Rattle.analysis.specs.Tables.{no_vertex, vertex}
 use Rattle.analysis.specs.declared.records.Vertex.{Vertex}
-use Rattle.model.specs.Written.{over}
 use Rattle.downskillet_c.specs.Answers.{TableOf, ReadOff, column_told, written}
 
 -- What was read off by `f` is the list that f makes of the records, and what was there after it.

@@ -2,3 +2,4 @@ mod Passes
 mod Sounds
 mod Tables
 mod Arrays
+mod Structures

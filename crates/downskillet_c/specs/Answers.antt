@@ -1,11 +1,11 @@
 -- What a table of vertices tells, and what an array holds once an answer of each vertex is copied into it.
 use Rattle.std.specs.Prelude.{◌≡◌, ℕ, ◌-◌, ◌<◌, ◌≤◌, min, cond, List, length, drop, nat_lt, slice_index_or, Ok, Err}
 use Rattle.pattern.specs.Patterns.{Pattern}
+use Rattle.pattern.specs.Structure.{over}
 use Rattle.analysis.specs.Analysed.{Answered}
 use Rattle.analysis.specs.Counts as counts
 use Rattle.analysis.specs.Tables.{no_vertex}
 use Rattle.analysis.specs.declared.records.Vertex.{Vertex}
-use Rattle.model.specs.Written.{over}
 use Rattle.model.specs.Refusals.{number_of}
 use Rattle.model.specs.declared.refusals.Refusal.TheVariants.{ArraysTooShort}
 

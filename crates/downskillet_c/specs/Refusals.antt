@@ -47,8 +47,8 @@ abbrev pub outcome : ℕ → List (ℕ × ℕ) → ℕ → ℕ → ℕ → Resul
 outcome n ps vertices entries links = answer (first_fault n ps vertices entries links) (total (pattern_given n ps))
 
 -- the number that a call answers, 0 where it is accepted, and the total after it
-abbrev pub number_told : Result ℕ Refusal → ℕ
-number_told (Ok sum) = 0
+abbrev pub number_told : {X : Type 0} → Result X Refusal → ℕ
+number_told (Ok x) = 0
 number_told (Err refusal) = number_of refusal
 
 abbrev pub total_told : Result ℕ Refusal → ℕ → ℕ

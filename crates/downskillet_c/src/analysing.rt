@@ -1,10 +1,12 @@
 // The analysis of a list of pairs, and of an entry table that holds its pairs already.
-ghost use Rattle.std.specs.Prelude.{◌≡◌, ◌≤◌, map, length, drop, MatchResult};
+ghost use Rattle.std.specs.Prelude.{◌≡◌, ◌≤◌, map, length, take, drop, IfOk, MatchResult};
 ghost use Rattle.analysis.specs.Analysed.{Answered};
 ghost use Rattle.analysis.specs.Growth.{pattern_of};
+ghost use Rattle.analysis.specs.declared.records.End.TheVariants.{High};
+ghost use Rattle.analysis.specs.Links.{Listed};
 ghost use Rattle.analysis.specs.Tables.{Sound, pairs_of};
 ghost use Rattle.pattern.specs.Elimination as elimination;
-ghost use Rattle.downskillet_c.specs.Analysing.{Analysed, Unchanged};
+ghost use Rattle.downskillet_c.specs.Analysing.{Analysed, Ready, Unchanged};
 ghost use Rattle.downskillet_c.specs.Pairs.{given};
 ghost use Rattle.downskillet_c.specs.Refusals.{outcome, number_told, total_told};
 
@@ -17,7 +19,12 @@ use model::Refusal;
 use sets::HalvedLinks;
 
 // Analyses the entries, with no more of the vertices and the links than the order has.
-fn analyse_sound(order: u32, vertices: &mut [Vertex], entries: &mut [Entry], links: &mut [u32]) -> u64
+fn analyse_sound(
+    order: u32,
+    vertices: &mut [Vertex],
+    entries: &mut [Entry],
+    links: &mut [u32],
+) -> u64
     requires some { 1 ≤ order }
     requires few { order ≤ 16384 }
     requires within { order ≤ length vertices.old }
@@ -27,6 +34,7 @@ fn analyse_sound(order: u32, vertices: &mut [Vertex], entries: &mut [Entry], lin
     ensures sums { result ≡ elimination.total (pattern_of order entries.old) }
     ensures answers { Answered (pattern_of order entries.old) vertices.new }
     ensures pairs { pairs_of entries.new ≡ pairs_of entries.old }
+    ensures lists { Listed High (take order vertices.new) entries.new }
     ensures other_vertices { drop order vertices.new ≡ drop order vertices.old }
     ensures other_links { drop order links.new ≡ drop order links.old }
 {
@@ -55,8 +63,9 @@ fn analyse_pairs(
     Ok(analyse_sound(order, vertices, entries, links))
 }
 
-// Analyses the pairs that the entry table holds, once none is refused.
-fn analyse_entries(
+// Analyses the pairs that the entry table holds, once none is refused. Each vertex then has the list of its lower
+// neighbours there.
+pub(crate) fn analyse_entries(
     order: u32,
     vertices: &mut [Vertex],
     entries: &mut [Entry],
@@ -66,8 +75,9 @@ fn analyse_entries(
         (length vertices.old) (length entries.old) (length links.old) }
     ensures left { MatchResult result
         (λ _. Analysed order (pairs_of entries.old)
-            vertices.old vertices.new entries.old entries.new links.old links.new)
+        vertices.old vertices.new entries.old entries.new links.old links.new)
         (λ _. Unchanged vertices.old vertices.new entries.old entries.new links.old links.new) }
+    ensures ready { IfOk result (λ _. Ready order (pairs_of entries.old) vertices.new entries.new) }
 {
     judge_all(order, entries, vertices, entries.len(), links)?;
     turn(entries);
@@ -111,7 +121,7 @@ pub extern "C" fn downskillet_analyse_entries(
     ensures left { MatchResult (outcome order (pairs_of entries.old)
         (length vertices.old) (length entries.old) (length links.old))
         (λ _. Analysed order (pairs_of entries.old)
-            vertices.old vertices.new entries.old entries.new links.old links.new)
+        vertices.old vertices.new entries.old entries.new links.old links.new)
         (λ _. Unchanged vertices.old vertices.new entries.old entries.new links.old links.new) }
 {
     let outcome = analyse_entries(order, vertices, entries, links);

@@ -73,7 +73,11 @@ pub extern "C" fn downskillet_heights(vertices: &[Vertex], heights: &mut [u32]) 
     ensures answers { (p : Pattern) → TableOf p vertices.now →
         heights.new ≡ written (map (height_of p) (upto p.order)) heights.old }
 {
-    write(vertices, heights, |vertex| vertex.deepest.0.saturating_sub(vertex.level))
+    write(
+        vertices,
+        heights,
+        |vertex| vertex.deepest.0.saturating_sub(vertex.level),
+    )
 }
 
 #[unsafe(no_mangle)]

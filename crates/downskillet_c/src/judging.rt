@@ -46,7 +46,11 @@ fn find_faults<E: Ends>(order: u32, pairs: &[E]) -> Faults
     ensures second { result.second ≡ some_second_outside order (map E.ends pairs.now) }
     ensures equal { result.equal ≡ some_equal (map E.ends pairs.now) }
 {
-    let mut faults = Faults { first: false, second: false, equal: false };
+    let mut faults = Faults {
+        first: false,
+        second: false,
+        equal: false,
+    };
     for pair in pairs {
         faults.first |= is_outside(order, pair.first());
         faults.second |= is_outside(order, pair.second());

@@ -8,3 +8,4 @@ mod judging;
 mod pairs;
 mod refusals;
 mod sizes;
+mod structure;

@@ -4,22 +4,16 @@ ghost use Rattle.std.specs.Prelude.{◌≡◌};
 use analysis::records::{Entry, Vertex};
 use std::mem::size_of;
 
-pub const VERTEX_BYTES: usize = 48;
-
-pub const ENTRY_BYTES: usize = 12;
-
-const _: () = prove!(size_of::<Vertex>() == VERTEX_BYTES && size_of::<Entry>() == ENTRY_BYTES);
-
 #[unsafe(no_mangle)]
 pub extern "C" fn downskillet_vertex_bytes() -> usize
-    ensures { result ≡ VERTEX_BYTES }
+    ensures { result ≡ 48 }
 {
-    VERTEX_BYTES
+    size_of::<Vertex>()
 }
 
 #[unsafe(no_mangle)]
 pub extern "C" fn downskillet_entry_bytes() -> usize
-    ensures { result ≡ ENTRY_BYTES }
+    ensures { result ≡ 12 }
 {
-    ENTRY_BYTES
+    size_of::<Entry>()
 }
