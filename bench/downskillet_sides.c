@@ -1,5 +1,5 @@
-// Downskillet, twice: over an entry table that holds the pairs in the order in which they were put, and from the list of
-// pairs, which fills the table first. Tables are lent before, as a program has them.
+// Downskillet, twice: over an entry table that holds the pairs in the order in which they were put, and from the list
+// of pairs, which fills the table first. Tables are lent before, as a program has them.
 #include "sides.h"
 #include "../include/downskillet.h"
 #include <stdlib.h>

@@ -13,7 +13,8 @@ use Rattle.pattern.proofs.Columns.{column_fits}
 use Rattle.analysis.specs.Counts.{column_of}
 use Rattle.analysis.specs.Tables.{no_vertex, vertex}
 use Rattle.analysis.specs.declared.records.Vertex.{Vertex}
-use Rattle.downskillet_c.specs.Answers.{TableOf, ReadOff, column_told, written}
+use Rattle.downskillet_c.specs.Analysing.{TableOf}
+use Rattle.downskillet_c.specs.Answers.{ReadOff, column_told, written}
 
 -- What was read off by `f` is the list that f makes of the records, and what was there after it.
 module _ {gives : Vertex → ℕ → Type 0} (f : Vertex → ℕ) (vs : List Vertex) (before after : List ℕ)

@@ -38,23 +38,20 @@ room_judged p sum long wide r same judged ok =
       rows = omega (arith, ltb-false _ _ fits.1, taken_total p);
     }
 
--- the front of an analysed table, and arrays with room, seen as those of the pattern that the tables make up
+-- analysed tables, and arrays with room, seen as those of the pattern that the tables make up
 pub found : (n : ℕ) (ps : List (ℕ × ℕ)) (vs : List Vertex) (es : List Entry) (long wide : ℕ) → Ready n ps vs es →
     Room (pattern_given n ps) long wide →
     Found (pattern_in (take n vs) es) (take n vs) × Room (pattern_in (take n vs) es) long wide
 found n ps vs es long wide ready room =
-    let front = length-take-le n vs ready.tall in
+    let table = ready.table in
     let same : pattern_given n ps ≡ pattern_in (take n vs) es =
-    λ k. record { order = sym front k; entries = sym ready.pairs k } in
+    λ k. record { order = table.order k; entries = sym ready.pairs k } in
     subst (λ p. Found p (take n vs) × Room p long wide) same (
       record {
-        order = sym front;
-        few = ready.few;
-        tree = record { parents = λ v one most. ap (λ x. x.parent) (at v one most) ∙ ready.answers.parents v one most };
-        columns = λ v one most. ap (λ x. x.weight.0) (at v one most) ∙ ready.answers.columns v one most;
+        order = table.order;
+        few = table.few;
+        tree = record { parents = table.answered.parents };
+        columns = table.answered.columns;
       },
       room,
     )
-  where
-    at : (v : ℕ) → 1 ≤ v → v ≤ n → vertex (take n vs) v ≡ vertex vs v
-    at v one most = get_or-take n vs (v - 1) no_vertex (omega arith)

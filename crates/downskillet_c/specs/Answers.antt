@@ -1,19 +1,11 @@
 -- What a table of vertices tells, and what an array holds once an answer of each vertex is copied into it.
 use Rattle.std.specs.Prelude.{◌≡◌, ℕ, ◌-◌, ◌<◌, ◌≤◌, min, cond, List, length, drop, nat_lt, slice_index_or, Ok, Err}
-use Rattle.pattern.specs.Patterns.{Pattern}
 use Rattle.pattern.specs.Structure.{over}
-use Rattle.analysis.specs.Analysed.{Answered}
 use Rattle.analysis.specs.Counts as counts
 use Rattle.analysis.specs.Tables.{no_vertex}
 use Rattle.analysis.specs.declared.records.Vertex.{Vertex}
 use Rattle.model.specs.Refusals.{number_of}
 use Rattle.model.specs.declared.refusals.Refusal.TheVariants.{ArraysTooShort}
-
--- the records are those of the pattern's vertices, and hold what an analysis answers
-pub record TableOf (p : Pattern) (vs : List Vertex) : Type 0 where
-  pub order : p.order ≡ length vs
-  pub few : p.order ≤ 16384
-  pub answered : Answered p vs
 
 -- the number that is answered where n places are needed: 0 where there are as many
 abbrev pub number_for : ℕ → ℕ → ℕ

@@ -1,12 +1,11 @@
 // The analysis of a list of pairs, and of an entry table that holds its pairs already.
 ghost use Rattle.std.specs.Prelude.{◌≡◌, ◌≤◌, map, length, take, drop, IfOk, MatchResult};
-ghost use Rattle.analysis.specs.Analysed.{Answered};
 ghost use Rattle.analysis.specs.Growth.{pattern_of};
 ghost use Rattle.analysis.specs.declared.records.End.TheVariants.{High};
 ghost use Rattle.analysis.specs.Links.{Listed};
 ghost use Rattle.analysis.specs.Tables.{Sound, pairs_of};
 ghost use Rattle.pattern.specs.Elimination as elimination;
-ghost use Rattle.downskillet_c.specs.Analysing.{Analysed, Ready, Unchanged};
+ghost use Rattle.downskillet_c.specs.Analysing.{Analysed, Ready, TableOf, Unchanged};
 ghost use Rattle.downskillet_c.specs.Pairs.{given};
 ghost use Rattle.downskillet_c.specs.Refusals.{outcome, number_told, total_told};
 
@@ -32,7 +31,7 @@ fn analyse_sound(
     requires fewer { length entries.old ≤ 262144 }
     requires sound { Sound order (pairs_of entries.old) }
     ensures sums { result ≡ elimination.total (pattern_of order entries.old) }
-    ensures answers { Answered (pattern_of order entries.old) vertices.new }
+    ensures table { TableOf (pattern_of order entries.old) (take order vertices.new) }
     ensures pairs { pairs_of entries.new ≡ pairs_of entries.old }
     ensures lists { Listed High (take order vertices.new) entries.new }
     ensures other_vertices { drop order vertices.new ≡ drop order vertices.old }

@@ -5,7 +5,8 @@ ghost use Rattle.pattern.specs.Patterns.{Pattern};
 ghost use Rattle.pattern.specs.Lists.{upto};
 ghost use Rattle.pattern.specs.Analysis.{first_place_of, height_of, place_of};
 ghost use Rattle.pattern.specs.Elimination.{col_count, parent, row_count};
-ghost use Rattle.downskillet_c.specs.Answers.{TableOf, ReadOff, number_for, written, height_told, column_told};
+ghost use Rattle.downskillet_c.specs.Analysing.{TableOf};
+ghost use Rattle.downskillet_c.specs.Answers.{ReadOff, number_for, written, height_told, column_told};
 
 use analysis::records::Vertex;
 use model::Refusal;
