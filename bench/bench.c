@@ -8,7 +8,9 @@
 #include <time.h>
 
 #define SIDES 5
-#define ROUNDS 21
+#define OURS 2 // the first of them
+#define ROUNDS 41
+#define FEWEST_ROUNDS 3
 #define LONG_ENOUGH 0.5 // seconds a side may take in all rounds of a pattern; a slow one has fewer rounds
 
 static const side *sides[SIDES] = {&loaded_side, &unsorted_side, &cholmod_side, &cxsparse_side, &eigen_side};
@@ -61,52 +63,108 @@ static int by_size(const void *a, const void *b) {
     return x < y ? -1 : x > y;
 }
 
-// The median time of each side, and the quartiles of the first.
-static void times(double median[SIDES], double quartile[2]) {
+// What the rounds of each side took: the least, and the median. The sides take turns, and who begins changes.
+typedef struct {
+    double least[SIDES], median[SIDES];
+} times;
+
+static times take_times(void) {
     static double took[SIDES][ROUNDS];
     int rounds[SIDES] = {0};
     double spent[SIDES] = {0};
     for (int r = 0; r < ROUNDS; r++)
-        for (int s = 0; s < SIDES; s++) {
-            if (r >= 3 && spent[s] > LONG_ENOUGH) continue;
+        for (int turn = 0; turn < SIDES; turn++) {
+            int s = (r + turn) % SIDES;
+            if (r >= FEWEST_ROUNDS && spent[s] > LONG_ENOUGH) continue;
             double begun = now();
             sides[s]->analyse();
             double t = now() - begun;
             took[s][rounds[s]++] = t;
             spent[s] += t;
         }
+    times all;
     for (int s = 0; s < SIDES; s++) {
         qsort(took[s], (size_t)rounds[s], sizeof(double), by_size);
-        median[s] = took[s][rounds[s] / 2];
+        all.least[s] = took[s][0];
+        all.median[s] = took[s][rounds[s] / 2];
     }
-    quartile[0] = took[0][rounds[0] / 4];
-    quartile[1] = took[0][rounds[0] * 3 / 4];
+    return all;
+}
+
+// How the times of one of ours stand to another library's over all patterns.
+typedef struct {
+    double logs_of_least, logs_of_medians, worst;
+    const pattern *where;
+} ratios;
+
+static void add(ratios *all, const pattern *p, const times *t, int ours, int other) {
+    double ratio = t->least[ours] / t->least[other];
+    all->logs_of_least += log(ratio);
+    all->logs_of_medians += log(t->median[ours] / t->median[other]);
+    if (ratio > all->worst) {
+        all->worst = ratio;
+        all->where = p;
+    }
+}
+
+// What it takes to copy four of our answers from the records into arrays: no analysis above does so.
+static void show_copying(const pattern *p) {
+    double least = 1;
+    answers a = room(p->order);
+    sides[0]->prepare(p);
+    sides[0]->analyse();
+    for (int r = 0; r < ROUNDS; r++) {
+        double begun = now();
+        sides[0]->answer(&a);
+        double t = now() - begun;
+        if (t < least) least = t;
+    }
+    sides[0]->finish();
+    leave(a);
+    printf("\ncopying four answers of %u vertices into arrays: %.0f microseconds\n", p->order, least * 1e6);
+}
+
+static void show(const pattern *p, const times *t) {
+    printf("%-8s %6u %7zu", p->family, p->order, p->pairs);
+    for (int s = 0; s < SIDES; s++) printf(" %9.0f", t->least[s] * 1e6);
+    for (int ours = 0; ours < OURS; ours++)
+        for (int other = OURS; other < SIDES; other++) printf(" %5.2f", t->least[ours] / t->least[other]);
+    printf("\n");
+    fflush(stdout);
+}
+
+static void show_heads(void) {
+    printf("microseconds, the least of up to %d rounds, and how often the other's time each of ours takes\n\n", ROUNDS);
+    printf("%-8s %6s %7s", "family", "order", "pairs");
+    for (int s = 0; s < SIDES; s++) printf(" %9s", sides[s]->name);
+    for (int ours = 0; ours < OURS; ours++)
+        for (int other = OURS; other < SIDES; other++) printf("  %c/%.2s", sides[ours]->name[0], sides[other]->name);
+    printf("\n");
 }
 
 int main(void) {
     static pattern list[32];
     size_t patterns = all_patterns(list, 32);
-    double logs[SIDES] = {0}, worst = 0;
-    printf("%-8s %6s %7s %19s", "family", "order", "pairs", "loaded, us (spread)");
-    for (int s = 1; s < SIDES; s++) printf(" %9s", sides[s]->name);
-    printf("   loaded/CHOLMOD\n");
+    ratios all[OURS][SIDES] = {0};
+    show_heads();
     for (size_t k = 0; k < patterns; k++) {
         const pattern *p = &list[k];
-        double median[SIDES], quartile[2];
         for (int s = 0; s < SIDES; s++) sides[s]->prepare(p);
         compare(p);
-        times(median, quartile);
+        times t = take_times();
         for (int s = 0; s < SIDES; s++) sides[s]->finish();
-        printf("%-8s %6u %7zu %8.0f (%.0f..%.0f)", p->family, p->order, p->pairs, median[0] * 1e6, quartile[0] * 1e6,
-               quartile[1] * 1e6);
-        for (int s = 1; s < SIDES; s++) printf(" %9.0f", median[s] * 1e6);
-        double ratio = median[0] / median[2];
-        printf("   %.2f\n", ratio);
-        if (ratio > worst) worst = ratio;
-        for (int s = 0; s < SIDES; s++) logs[s] += log(median[0] / median[s]);
+        show(p, &t);
+        for (int ours = 0; ours < OURS; ours++)
+            for (int other = OURS; other < SIDES; other++) add(&all[ours][other], p, &t, ours, other);
     }
-    for (int s = 1; s < SIDES; s++)
-        printf("loaded / %s: geometric mean %.2f\n", sides[s]->name, exp(logs[s] / (double)patterns));
-    printf("loaded / CHOLMOD: at most %.2f\n", worst);
+    printf("\n%-20s %14s %14s   %s\n", "geometric means", "of the least", "of the medians", "worst");
+    for (int ours = 0; ours < OURS; ours++)
+        for (int other = OURS; other < SIDES; other++) {
+            const ratios *r = &all[ours][other];
+            printf("%-8s / %-9s %14.2f %14.2f   %.2f at %s of %u\n", sides[ours]->name, sides[other]->name,
+                   exp(r->logs_of_least / (double)patterns), exp(r->logs_of_medians / (double)patterns), r->worst,
+                   r->where->family, r->where->order);
+        }
+    show_copying(&list[patterns - 1]);
     return 0;
 }

@@ -8,6 +8,7 @@ use gather::kinds::{GreatestLevel, LeastPlace, Weight};
 
 // An entry of the pattern, low < high: 16 bits hold the largest order, 16,384.
 #[derive(Clone, Copy, Default)]
+#[repr(C)]
 pub struct Entry {
     pub low: u16,
     pub high: u16,
@@ -25,6 +26,7 @@ pub enum End {
 
 // What an analysis finds of one vertex, with its working storage.
 #[derive(Clone, Copy, Default)]
+#[repr(C)]
 pub struct Vertex {
     // The parent in the elimination tree, 0 at a root, and the number of parent steps to the root.
     pub parent: u32,

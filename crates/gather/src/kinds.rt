@@ -12,6 +12,7 @@ use crate::joining::Joining;
 
 // A share of a sum that wraps.
 #[derive(Clone, Copy, Default)]
+#[repr(C)]
 pub struct Weight(pub i64);
 
 impl Joining for Weight {
@@ -44,6 +45,7 @@ impl Joining for Weight {
 // A place, of which the least is sought. One type for this and the next would be no plainer: min or max, and what is
 // neutral to it, are all that they are.
 #[derive(Clone, Copy, Default)]
+#[repr(C)]
 pub struct LeastPlace(pub u32);
 
 impl From<u32> for LeastPlace {
@@ -75,6 +77,7 @@ impl Joining for LeastPlace {
 
 // A level, of which the greatest is sought.
 #[derive(Clone, Copy, Default)]
+#[repr(C)]
 pub struct GreatestLevel(pub u32);
 
 impl From<u32> for GreatestLevel {

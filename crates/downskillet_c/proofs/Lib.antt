@@ -1,0 +1,5 @@
+mod Passes
+mod Sounds
+mod Tables
+mod Arrays
+mod Structures

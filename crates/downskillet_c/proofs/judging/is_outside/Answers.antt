@@ -1,0 +1,7 @@
+use Rattle.std.proofs.Common.{rules, ap, not}
+use Rattle.pattern.specs.Patterns.{within}
+use Rattle.downskillet_c.proofs.judging.is_outside.Goals as goal
+
+pub returns : goal.returns
+unfolding within
+returns c = search rules
