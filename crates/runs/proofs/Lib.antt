@@ -6,3 +6,4 @@ mod Counted
 mod Standing
 mod Endings
 mod Lawful
+mod Lent
