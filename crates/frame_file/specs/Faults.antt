@@ -5,7 +5,7 @@ use Rattle.model.specs.Refusals.{number_of}
 use Rattle.model.specs.declared.refusals.Refusal.{Refusal}
 use Rattle.model.specs.declared.refusals.Refusal.TheVariants.{OrderOutOfRange, EmptyModel, TableTooShort, SetsTooSmall}
 use Rattle.model.specs.declared.refusals.Refusal.TheVariants.{VertexOutOfRange, EqualVertices, EntryHeld, ModelFull}
-use Rattle.model.specs.declared.refusals.Refusal.TheVariants.{EntryNotHeld, NotAnalysed}
+use Rattle.model.specs.declared.refusals.Refusal.TheVariants.{EntryNotHeld, NotAnalysed, ArraysTooShort}
 use Rattle.model.specs.declared.refusals.Side.TheVariants.{First, Second}
 use Rattle.frame_text.specs.Faults.{report_of, line_report}
 use Rattle.frame_text.specs.declared.faults.Report.{Report}
@@ -24,6 +24,7 @@ field_of EntryHeld = 0
 field_of ModelFull = 0
 field_of EntryNotHeld = 0
 field_of NotAnalysed = 0
+field_of ArraysTooShort = 0
 
 abbrev pub run_report : RunFault → Report
 run_report FileTooLong = report_of 0 0 1

@@ -42,7 +42,8 @@ fn field_of(refusal: Refusal) -> u8
         | Refusal::EntryHeld
         | Refusal::ModelFull
         | Refusal::EntryNotHeld
-        | Refusal::NotAnalysed => 0,
+        | Refusal::NotAnalysed
+        | Refusal::ArraysTooShort => 0,
     }
 }
 

@@ -1,15 +1,19 @@
 -- What an analysis makes of a store and of a model.
-use Rattle.std.proofs.Common.{ℕ, ◌-◌, Bool, true, ltb, [], ◌∷◌, None, Ok, Err, Result, sym, subst, ◌≡◌, List, ◌++◌, length, take, drop, ap, ◌∙◌, arith}
+use Rattle.std.proofs.Common.{ℕ, ◌-◌, ◌≤◌, Bool, true, false, cond, ltb, [], ◌∷◌, None, Ok, Err, Option, Result, refl, sym, subst, ◌≡◌, List, ◌++◌, length, take, drop, ap, ◌∙◌, arith}
 use Rattle.std.proofs.lemmas.List.{take-append-drop, length-take-le, get_or-take}
-use Rattle.std.proofs.lemmas.Bool.{lt-ltb}
-use Rattle.pattern.specs.Elimination.{total}
+use Rattle.std.proofs.lemmas.Bool.{le-ltb, lt-ltb}
+use Rattle.pattern.specs.Elimination.{total, parent}
+use Rattle.pattern.specs.Patterns.{Pattern, within}
+use Rattle.pattern.specs.Tops.{root}
+use Rattle.pattern.proofs.Tests.{within_parts}
 use Rattle.pattern.specs.Forest.{Grows}
 use Rattle.std.specs.Borrow.{MutBor}
 use Rattle.std.specs.Result.{IsErr, IsErrAnd, MatchResult}
 use Rattle.std.proofs.lemmas.Result.{MatchResult-from_err}
 use Rattle.sets.specs.declared.refusals.NoRoom.{NoRoom}
 use Rattle.model.specs.declared.refusals.Refusal.{Refusal}
-use Rattle.sets.specs.Meaning.{Sets}
+use Rattle.sets.specs.Meaning.{Sets, Sound, among}
+use Rattle.analysis.specs.Counts.{TopsAreRoots}
 use Rattle.analysis.specs.Analysed as analysis
 use Rattle.analysis.specs.Analysed.{Answered}
 use Rattle.analysis.specs.Growth.{Tree}
@@ -25,7 +29,8 @@ use Rattle.model.specs.declared.refusals.Refusal.TheVariants.{SetsTooSmall}
 use Rattle.model.specs.declared.stores.Store.{Store}
 use Rattle.model.specs.Analysing.{Analysed, Refused, Settled, Unsettled}
 use Rattle.model.specs.Meaning.{meaning, Outcome}
-use Rattle.model.specs.States.{Analyse, pattern_in, empty, first_of, first_refusal}
+use Rattle.model.specs.SetsAfter.{SameSets, settled as settled_sets, sets_after}
+use Rattle.model.specs.States.{State, Analyse, pattern_in, if_accepted, empty, first_of, first_refusal}
 use Rattle.model.specs.Stored.{held_by, means}
 use Rattle.model.proofs.Keeping.{same_model, same_store}
 use Rattle.model.proofs.Rules.{none_of, refused}
@@ -111,3 +116,28 @@ module _ (s : Store) (answers : Answered (pattern_in (means s)) s.vertices.now) 
         narrow = omega (arith, long, is.narrow);
         sets = record { size = is.size; used = is.used; tops = is.tops };
       }
+
+-- The sets are settled: what is not in use has top 0.
+module _ (p : Pattern) (before after : Sets) (sound : Sound after) (size : after.size ≡ before.size)
+    (roots : TopsAreRoots p after) where
+  top_settled : (v : ℕ) (b : Bool) → within p.order v ≡ b → after.top v ≡ cond b (root p.order (parent p) v) 0
+  unfolding within
+  top_settled v true there =
+      let vertex = within_parts p.order v there in
+      roots.tops v vertex.named vertex.fits
+  top_settled v false not_there = sound.top_none v (ap (λ m. among m v) roots.used ∙ not_there)
+
+  pub is_settled : SameSets (settled_sets p before) after
+  is_settled = record { size = size; used = roots.used; tops = λ v. top_settled v (within p.order v) refl }
+
+-- an accepted analysis settles the sets
+pub sets_settled : (m : Model) (before after : Sets) → first_of (empty (meaning m) ∷ []) ≡ None →
+    m.store.order ≤ before.size → SameSets (settled_sets (pattern_in (meaning m)) before) after →
+    SameSets (sets_after (meaning m) (Analyse before.size) before) after
+sets_settled m before after made room same =
+    let s = meaning m in
+    let none : first_refusal s (Analyse before.size) ≡ None =
+    analyse_first m before.size false made (le-ltb _ _ room) in
+    let P : Option Refusal → Type 0 =
+    λ o. SameSets (if_accepted o (settled_sets (pattern_in s) before) before) after in
+    subst P (sym none) same

@@ -1,24 +1,17 @@
 -- What an analysis makes of a store, and of the ancestor sets lent to it.
-use Rattle.std.specs.Prelude.{◌≡◌, ℕ, ◌<◌, ◌≤◌, true, length, is_ok, is_err, Some, Result}
-use Rattle.pattern.specs.Patterns.{Pattern}
+use Rattle.std.specs.Prelude.{◌≡◌, ℕ, ◌<◌, ◌≤◌, length, Some}
 use Rattle.sets.specs.Meaning.{Sets}
 use Rattle.analysis.specs.Analysed as analysis
 use Rattle.analysis.specs.Counts.{TopsAreRoots}
-use Rattle.model.specs.declared.refusals.Refusal.{Refusal}
 use Rattle.model.specs.declared.stores.Store.{Store}
+use Rattle.model.specs.SetsAfter.{SameSets}
 use Rattle.model.specs.States.{pattern_in}
 use Rattle.model.specs.Stored.{held_by, means}
-
--- nothing has changed of what the sets stand for
-pub record Untouched (s t : Sets) : Type 0 where
-  pub size : t.size ≡ s.size
-  pub used : t.used ≡ s.used
-  pub tops : (v : ℕ) → t.top v ≡ s.top v
 
 pub record Refused (s t : Store) (before after : Sets) : Type 0 where
   pub narrow : before.size < s.order
   pub store : t ≡ s
-  pub sets : Untouched before after
+  pub sets : SameSets before after
 
 -- the vertex table is filled in; the entries are as they were but for their links
 pub record Analysed (s t : Store) (before after : Sets) (sum : ℕ) : Type 0 where
@@ -37,11 +30,4 @@ pub record Settled (s : Store) (before after : Sets) : Type 0 where
 
 pub record Unsettled (s : Store) (before after : Sets) : Type 0 where
   pub narrow : before.size < s.order
-  pub sets : Untouched before after
-
--- What the sets stand for after an analysis of the pattern p that answers r. Refused, what they stood for; accepted,
--- the vertices of p are in use and the top of each is the root of its tree.
-pub record SetsAfter (p : Pattern) (before after : Sets) (r : Result ℕ Refusal) : Type 0 where
-  pub size : after.size ≡ before.size
-  pub refused : is_err r ≡ true → Untouched before after
-  pub accepted : is_ok r ≡ true → TopsAreRoots p after
+  pub sets : SameSets before after

@@ -2,6 +2,9 @@ pub mod Refusals
 pub mod States
 pub mod Tables
 pub mod Stored
+pub mod SetsAfter
+pub mod Written
+pub mod Columns
 pub mod Analysing
 pub mod Meaning
 pub mod Asked

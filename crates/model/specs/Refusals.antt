@@ -3,7 +3,7 @@ use Rattle.std.specs.Prelude.{ℕ}
 use Rattle.model.specs.declared.refusals.Refusal.{Refusal}
 use Rattle.model.specs.declared.refusals.Refusal.TheVariants.{OrderOutOfRange, EmptyModel, TableTooShort, SetsTooSmall}
 use Rattle.model.specs.declared.refusals.Refusal.TheVariants.{VertexOutOfRange, EqualVertices, EntryHeld, ModelFull}
-use Rattle.model.specs.declared.refusals.Refusal.TheVariants.{EntryNotHeld, NotAnalysed}
+use Rattle.model.specs.declared.refusals.Refusal.TheVariants.{EntryNotHeld, NotAnalysed, ArraysTooShort}
 
 abbrev pub number_of : Refusal → ℕ
 number_of OrderOutOfRange = 8
@@ -16,3 +16,4 @@ number_of EntryHeld = 12
 number_of ModelFull = 13
 number_of EntryNotHeld = 14
 number_of NotAnalysed = 15
+number_of ArraysTooShort = 16

@@ -1,12 +1,13 @@
 -- What a model is to its user, which calls it refuses and what an accepted call makes of it: all of the rules.
-use Rattle.std.specs.Prelude.{ℕ, min, max, Bool, true, false, cond, not, ◌||◌, List, [], ◌∷◌, ◌++◌, length, Some, None, Ok, Err, Option, Result, ◌==◌, nat_lt}
+use Rattle.std.specs.Prelude.{ℕ, ◌+◌, ◌-◌, min, max, Bool, true, false, cond, not, ◌||◌, List, [], ◌∷◌, ◌++◌, length, Some, None, Ok, Err, Option, Result, ◌==◌, nat_lt}
 use Rattle.pattern.specs.Patterns.{Pattern, within, same_entry, listed}
+use Rattle.pattern.specs.Elimination.{total}
 use Rattle.model.specs.declared.refusals.Side.{Side}
 use Rattle.model.specs.declared.refusals.Side.TheVariants.{First, Second}
 use Rattle.model.specs.declared.refusals.Refusal.{Refusal}
 use Rattle.model.specs.declared.refusals.Refusal.TheVariants.{OrderOutOfRange, EmptyModel, TableTooShort, SetsTooSmall}
 use Rattle.model.specs.declared.refusals.Refusal.TheVariants.{VertexOutOfRange, EqualVertices, EntryHeld, ModelFull}
-use Rattle.model.specs.declared.refusals.Refusal.TheVariants.{EntryNotHeld, NotAnalysed}
+use Rattle.model.specs.declared.refusals.Refusal.TheVariants.{EntryNotHeld, NotAnalysed, ArraysTooShort}
 
 -- The entries are those held, the lower vertex first, in the order in which they were put. The empty model has order
 -- 0.
@@ -20,13 +21,15 @@ pub record State : Type 0 where
 abbrev pub pattern_in : State → Pattern
 pattern_in s = record { order = s.order; entries = s.entries }
 
--- What a call is given: the two vertices of an entry, the size of the ancestor sets, the vertex that is asked of.
+-- What a call is given: the two vertices of an entry, the size of the ancestor sets, the vertex that is asked of, the
+-- lengths of the two arrays for the structure.
 pub data Given : Type 0 where
   Put : ℕ → ℕ → Given
   Drop : ℕ → ℕ → Given
   Analyse : ℕ → Given
   Question : ℕ → Given
   Total : Given
+  Structure : ℕ → ℕ → Given
 
 -- A rule: a condition, and the refusal of a call that meets it.
 abbrev pub Rule : Type 0
@@ -45,6 +48,12 @@ outside s side v = (not (within s.order v), VertexOutOfRange side)
 abbrev pub unanalysed : State → Rule
 unanalysed s = (not s.analysed, NotAnalysed)
 
+-- the arrays for the structure have too few places: starts one for each vertex and one more, rows one for each entry of
+-- the factor below its diagonal
+abbrev pub too_short : State → ℕ → ℕ → Rule
+too_short s starts rows =
+    (nat_lt starts (s.order + 1) || nat_lt rows (total (pattern_in s) - s.order), ArraysTooShort)
+
 -- the rules for the two vertices of an entry
 abbrev pub entry_rules : State → ℕ → ℕ → List Rule
 entry_rules s i j = empty s ∷ outside s First i ∷ outside s Second j ∷ ((i == j), EqualVertices) ∷ []
@@ -57,6 +66,7 @@ rules s (Drop i j) = entry_rules s i j ++ (not (listed s.entries i j), EntryNotH
 rules s (Analyse size) = empty s ∷ (nat_lt size s.order, SetsTooSmall) ∷ []
 rules s (Question v) = empty s ∷ outside s First v ∷ unanalysed s ∷ []
 rules s Total = empty s ∷ unanalysed s ∷ []
+rules s (Structure starts rows) = empty s ∷ unanalysed s ∷ too_short s starts rows ∷ []
 
 -- which refusal a call meets first, if any
 abbrev pub first_refusal : State → Given → Option Refusal
@@ -77,6 +87,7 @@ accepted s (Drop i j) = changed s (without i j s.entries)
 accepted s (Analyse size) = record { order = s.order; capacity = s.capacity; entries = s.entries; analysed = true }
 accepted s (Question v) = s
 accepted s Total = s
+accepted s (Structure starts rows) = s
 
 abbrev pub if_accepted : {X : Type 0} → Option Refusal → X → X → X
 if_accepted None x y = x

@@ -2,9 +2,10 @@
 ghost use Rattle.std.specs.Prelude.{◌≤◌, MatchResult};
 ghost use Rattle.pattern.specs.Elimination.{total};
 ghost use Rattle.analysis.specs.Analysed.{Answered};
-ghost use Rattle.model.specs.Analysing.{Analysed, Refused, Settled, Unsettled, SetsAfter};
+ghost use Rattle.model.specs.Analysing.{Analysed, Refused, Settled, Unsettled};
 ghost use Rattle.model.specs.Asked.{pattern_held};
-ghost use Rattle.model.specs.Meaning.{Outcome};
+ghost use Rattle.model.specs.Meaning.{meaning, Outcome};
+ghost use Rattle.model.specs.SetsAfter.{SameSets, sets_after};
 ghost use Rattle.model.specs.States.{Analyse, pattern_in};
 ghost use Rattle.model.specs.Stored.{means};
 
@@ -48,8 +49,9 @@ impl Model<'_> {
     pub fn analyse<S: AncestorSets>(&mut self, sets: &mut S) -> Result<u64, Refusal>
         ensures outcome { Outcome (Analyse (S.meaning sets.old).size)
             self.old self.new (total (pattern_held self.old)) result }
-        ensures sets { SetsAfter (pattern_held self.old)
-            (S.meaning sets.old) (S.meaning sets.new) result }
+        ensures sets { SameSets
+            (sets_after (meaning self.old) (Analyse (S.meaning sets.old).size) (S.meaning sets.old))
+            (S.meaning sets.new) }
     {
         self.judge_made()?;
         if let Some(total) = self.store.total {

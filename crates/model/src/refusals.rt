@@ -31,8 +31,10 @@ pub enum Refusal {
     ModelFull,
     // the entry to drop is not held
     EntryNotHeld,
-    // a question while the model is unanalysed
+    // a question or a structure call while the model is unanalysed
     NotAnalysed,
+    // the arrays lent for the structure have too few places
+    ArraysTooShort,
 }
 
 impl Refusal {
@@ -50,6 +52,7 @@ impl Refusal {
             Refusal::ModelFull => 13,
             Refusal::EntryNotHeld => 14,
             Refusal::NotAnalysed => 15,
+            Refusal::ArraysTooShort => 16,
         }
     }
 }
