@@ -1,5 +1,5 @@
 -- What a model is to its user, which calls it refuses and what an accepted call makes of it: all of the rules.
-use Rattle.std.specs.Prelude.{ℕ, ◌+◌, ◌-◌, min, max, Bool, true, false, cond, not, ◌||◌, List, [], ◌∷◌, ◌++◌, length, Some, None, Ok, Err, Option, Result, ◌==◌, nat_lt}
+use Rattle.std.specs.Prelude.{ℕ, ◌+◌, ◌-◌, min, max, Bool, true, false, cond, not, ◌||◌, List, [], ◌∷◌, ◌++◌, length, Some, None, Ok, Err, Option, Result, ◌==◌, nat_le, nat_lt, slice_get}
 use Rattle.pattern.specs.Patterns.{Pattern, within, same_entry, listed}
 use Rattle.pattern.specs.Elimination.{total}
 use Rattle.model.specs.declared.refusals.Side.{Side}
@@ -20,6 +20,10 @@ pub record State : Type 0 where
 -- the pattern of the entries held
 abbrev pub pattern_in : State → Pattern
 pattern_in s = record { order = s.order; entries = s.entries }
+
+-- the k-th of the entries, counted from 1
+abbrev pub entry_at : State → ℕ → Option (ℕ × ℕ)
+entry_at s k = cond (nat_le 1 k) (slice_get s.entries (k - 1)) None
 
 -- What a call is given: the two vertices of an entry, the size of the ancestor sets, the vertex that is asked of, the
 -- lengths of the two arrays for the structure.

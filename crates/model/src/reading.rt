@@ -1,6 +1,7 @@
 // What can be read of any model, the empty one too.
 ghost use Rattle.std.specs.Prelude.{◌≡◌, ◌≤◌, length};
 ghost use Rattle.model.specs.Meaning.{meaning};
+ghost use Rattle.model.specs.States.{entry_at};
 
 use crate::models::Model;
 
@@ -22,6 +23,15 @@ impl Model<'_> {
         ensures empty { (meaning self.now).order ≡ 0 → result ≡ 0 }
     {
         self.store.held
+    }
+
+    // The k-th of the entries held, counted from 1 in the order in which they were put, the lower vertex first.
+    pub fn entry(&self, k: u32) -> Option<(u32, u32)>
+        ensures { result ≡ entry_at (meaning self.now) k }
+    {
+        let index = k.checked_sub(1)? as usize;
+        let entry = self.store.entries[..self.store.held as usize].get(index)?;
+        Some((entry.low, entry.high))
     }
 
     // How many entries can be held.
