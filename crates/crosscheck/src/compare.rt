@@ -4,7 +4,7 @@ use crate::patterns::{Pair, Pattern};
 use crate::reference::Structure;
 use crate::script::{Script, Step};
 use analysis::records::{Entry, Vertex};
-use model::{Model, Refusal, make};
+use model::{Columns, Model, Refusal, make};
 use sets::{FollowedLinks, HalvedLinks, WrittenTops};
 use std::alloc::{AllocError, Global};
 
@@ -46,6 +46,11 @@ pub enum Difference {
     Height(Kind, u32),
     RowCount(Kind, u32),
     ColumnCount(Kind, u32),
+    /// The call that gives the structure.
+    Structure(Kind),
+    Starts(Kind),
+    Rows(Kind),
+    Column(Kind, u32),
 }
 
 /// What is lent to a model and to its sets, of exactly the size that a pattern and its script need.
@@ -54,10 +59,17 @@ pub struct Tables {
     vertices: Vec<Vertex>,
     entries: Vec<Entry>,
     numbers: Vec<u32>,
+    starts: Vec<u32>,
+    rows: Vec<u32>,
 }
 
 impl Tables {
-    pub fn new(alloc: Global, order: u32, capacity: usize) -> Result<Tables, AllocError> {
+    pub fn new(
+        alloc: Global,
+        structure: &Structure,
+        capacity: usize,
+    ) -> Result<Tables, AllocError> {
+        let order = structure.order;
         let mut vertices = Vec::new(alloc);
         for _ in 0..order {
             vertices.push(Vertex::new())?;
@@ -70,6 +82,8 @@ impl Tables {
             vertices,
             entries,
             numbers: vec![in alloc; 0; order as usize]?,
+            starts: vec![in alloc; 0; structure.starts.len()]?,
+            rows: vec![in alloc; 0; structure.rows.len()]?,
         })
     }
 
@@ -85,6 +99,7 @@ impl Tables {
                 let mut model = make(pattern.order, &mut self.vertices, &mut self.entries);
                 run(&mut model, script)?;
                 check(&mut model, kind, &mut self.numbers, structure)?;
+                check_structure(&model, kind, &mut self.starts, &mut self.rows, structure)?;
             }
             return Ok(());
         }
@@ -92,6 +107,7 @@ impl Tables {
         run(&mut model, script)?;
         for kind in Kind::ALL {
             check(&mut model, kind, &mut self.numbers, structure)?;
+            check_structure(&model, kind, &mut self.starts, &mut self.rows, structure)?;
             touch(&mut model, pattern)?;
         }
         Ok(())
@@ -178,6 +194,29 @@ fn check_vertex(
         ),
         Difference::ColumnCount(kind, vertex),
     )
+}
+
+/// Has an analysed model fill the tables of the structure, and compares them.
+fn check_structure(
+    model: &Model<'_>,
+    kind: Kind,
+    starts: &mut [u32],
+    rows: &mut [u32],
+    structure: &Structure,
+) -> Result<(), Difference> {
+    let is_filled = model.structure(starts, rows).is_ok();
+    ensure(is_filled, Difference::Structure(kind))?;
+    ensure(
+        &*starts == structure.starts.as_slice(),
+        Difference::Starts(kind),
+    )?;
+    ensure(&*rows == structure.rows.as_slice(), Difference::Rows(kind))?;
+    let columns = Columns::new(starts, rows);
+    for vertex in 1..=structure.order {
+        let is_same = columns.column(vertex) == Some(structure.column(vertex));
+        ensure(is_same, Difference::Column(kind, vertex))?;
+    }
+    Ok(())
 }
 
 fn is(answer: Result<u32, Refusal>, expected: u32) -> bool {

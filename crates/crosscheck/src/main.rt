@@ -94,7 +94,7 @@ fn difference(
 ) -> Result<Option<Difference>, AllocError> {
     let structure = Structure::new(alloc, pattern.order, &pattern.pairs)?;
     let script = Script::new(alloc, pattern, generator)?;
-    let mut tables = Tables::new(alloc, pattern.order, script.most_held)?;
+    let mut tables = Tables::new(alloc, &structure, script.most_held)?;
     Ok(tables.compare(pattern, &script, &structure).err())
 }
 

@@ -11,6 +11,8 @@ use std::alloc::{AllocError, Global};
 #[derive(Drop)]
 pub struct Structure {
     pub order: u32,
+    /// The rows of each column, ascending.
+    columns: Lists,
     /// The sum of all column counts.
     pub total: u64,
     /// The first row of the column below its diagonal; 0 if there is none.
@@ -45,9 +47,15 @@ impl Structure {
             rows: rows_below(alloc, order, &columns)?,
             first_places: first_places(alloc, order, &parents, &places)?,
             heights: heights(alloc, order, &parents)?,
+            columns,
             parents,
             places,
         })
+    }
+
+    /// The rows of a column below its diagonal.
+    pub fn column(&self, vertex: u32) -> &[u32] {
+        below_diagonal(self.columns.of(vertex))
     }
 }
 
