@@ -1,16 +1,22 @@
 // The factor: a square for each joint on the diagonal, and one below it for each member and each pair of the fill.
+ghost use Rattle.std.specs.Prelude.{◌≤◌, ◌^◌};
+
 use crate::sheets::{CELL, MARGIN};
 use model::{Columns, Model};
 use std::io;
 use std::io::Write;
 
 // Where the square of a row or column begins.
-fn begins(joint: u32) -> u64 {
+fn begins(joint: u32) -> u64
+    ensures { result ≤ 2 ^ 40 }
+{
     MARGIN + u64::from(joint.saturating_sub(1)) * CELL
 }
 
 // Where a text stands that belongs to a row or column.
-fn middle(joint: u32) -> u64 {
+fn middle(joint: u32) -> u64
+    ensures { result ≤ 2 ^ 41 }
+{
     begins(joint) + 9
 }
 
@@ -28,7 +34,10 @@ fn draw_square<W: Write>(
     )?;
     write!(out, "<title>{row}, {column}: {kind}")?;
     if let Some(child) = cause {
-        write!(out, ", as {row} is in the column of {child}, whose parent is {column}")?;
+        write!(
+            out,
+            ", as {row} is in the column of {child}, whose parent is {column}"
+        )?;
     }
     writeln!(out, "</title></rect>")
 }

@@ -7,6 +7,10 @@ mod refusals;
 mod sheets;
 mod trees;
 
+use crate::factors::draw_factor;
+use crate::refusals::Refused;
+use crate::sheets::Sheet;
+use crate::trees::draw_tree;
 use analysis::records::{Entry, Vertex};
 use frame_file::run_file;
 use model::{Columns, Model, make};
@@ -15,13 +19,9 @@ use std::alloc::Global;
 use std::io;
 use std::io::{BufWriter, Read, Write};
 
-use crate::factors::draw_factor;
-use crate::refusals::Refused;
-use crate::sheets::Sheet;
-use crate::trees::draw_tree;
-
 // The largest frame that is drawn, and the most members: those of framecount.
 const JOINTS: usize = 512;
+
 const MEMBERS: usize = 2048;
 
 // A picture of one line of text, where there is nothing to draw.
@@ -50,7 +50,7 @@ fn draw_frame<W: Write>(
     let sheet = Sheet::of(model);
     sheet.begin(out, total)?;
     draw_factor(out, model, &Columns::new(&starts, &rows))?;
-    draw_tree(out, model, &sheet)?;
+    draw_tree(out, model, sheet)?;
     writeln!(out, "</svg>")
 }
 

@@ -1,17 +1,21 @@
 // The elimination tree: each joint at its place in the walk, as far up as its height, and a line to its parent.
+ghost use Rattle.std.specs.Prelude.{◌≤◌, ◌^◌};
+
 use crate::sheets::Sheet;
 use model::Model;
 use std::io;
 use std::io::Write;
 
 // Where a joint of an analysed model stands.
-fn position(model: &Model<'_>, sheet: &Sheet, v: u32) -> (u64, u64) {
+fn position(model: &Model<'_>, sheet: Sheet, v: u32) -> (u64, u64)
+    ensures { result.1 ≤ 2 ^ 40 }
+{
     let place = model.place(v).unwrap_or(0);
     let height = model.height(v).unwrap_or(0);
     (sheet.across(place), sheet.down(height))
 }
 
-fn draw_step<W: Write>(out: &mut W, model: &Model<'_>, sheet: &Sheet, v: u32) -> io::Result<()> {
+fn draw_step<W: Write>(out: &mut W, model: &Model<'_>, sheet: Sheet, v: u32) -> io::Result<()> {
     let parent = model.parent(v).unwrap_or(0);
     if parent == 0 {
         return Ok(());
@@ -23,7 +27,7 @@ fn draw_step<W: Write>(out: &mut W, model: &Model<'_>, sheet: &Sheet, v: u32) ->
     )
 }
 
-fn draw_joint<W: Write>(out: &mut W, model: &Model<'_>, sheet: &Sheet, v: u32) -> io::Result<()> {
+fn draw_joint<W: Write>(out: &mut W, model: &Model<'_>, sheet: Sheet, v: u32) -> io::Result<()> {
     let (x, y) = position(model, sheet, v);
     let (first, place) = (
         model.first_place(v).unwrap_or(0),
@@ -41,7 +45,7 @@ fn draw_joint<W: Write>(out: &mut W, model: &Model<'_>, sheet: &Sheet, v: u32) -
 }
 
 // The tree of an analysed model: first the lines, then the joints over them.
-pub fn draw_tree<W: Write>(out: &mut W, model: &Model<'_>, sheet: &Sheet) -> io::Result<()> {
+pub fn draw_tree<W: Write>(out: &mut W, model: &Model<'_>, sheet: Sheet) -> io::Result<()> {
     for v in 1..=model.order() {
         draw_step(out, model, sheet, v)?;
     }

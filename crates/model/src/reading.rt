@@ -31,7 +31,7 @@ impl Model<'_> {
     {
         let index = k.checked_sub(1)? as usize;
         let entry = self.store.entries[..self.store.held as usize].get(index)?;
-        Some((entry.low, entry.high))
+        Some((entry.low as u32, entry.high as u32))
     }
 
     // How many entries can be held.
