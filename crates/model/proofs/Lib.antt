@@ -6,3 +6,4 @@ mod Keeping
 pub mod Rules
 mod Turns
 mod Structures
+mod ReadBack

@@ -1,6 +1,6 @@
 // The columns of the structure, read from its two arrays.
 ghost use Rattle.std.specs.Prelude.{◌≡◌, option_map};
-ghost use Rattle.model.specs.Columns.{column_in};
+ghost use Rattle.model.specs.Columns.{column_in, ColumnsReadBack};
 
 // The starts and the rows as `structure` writes them. What they hold is not trusted.
 #[derive(Clone, Copy)]
@@ -26,3 +26,8 @@ impl<'a> Columns<'a> {
         self.rows.get(from as usize..to as usize)
     }
 }
+
+/// From arrays that the structure is written into, whatever stands behind it, each column of the pattern is read.
+pub fn columns_read_back()
+    ensures { ColumnsReadBack }
+{}

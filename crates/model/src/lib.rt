@@ -18,7 +18,7 @@ mod structure;
 #[cfg(test)]
 mod tests;
 
-pub use columns::Columns;
+pub use columns::{Columns, columns_read_back};
 pub use making::{judge, make};
 pub use models::Model;
 pub use refusals::{Refusal, Side};

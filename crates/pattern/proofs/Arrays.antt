@@ -31,7 +31,7 @@ module _ (p : Pattern) where
   taken_fits few zero = omega arith
   taken_fits few (suc v) = omega (arith, taken_fits few v, column_fits p (suc v))
 
-  rows_long : length (rows p) ≡ taken p p.order
+  pub rows_long : length (rows p) ≡ taken p p.order
   unfolding rows
   rows_long = taken_is p p.order (omega arith)
 

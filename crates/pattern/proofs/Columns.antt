@@ -81,7 +81,7 @@ module _ (p : Pattern) where
       ∙ get_or-append-add before (higher p (suc v) ++ rest) i 0
       ∙ get_or_append_left (higher p (suc v)) rest 0 i less
 
-  column_of : (v : ℕ) → v < p.order →
+  pub column_of : (v : ℕ) → v < p.order →
       take (taken p (suc v) - taken p v) (drop (taken p v) (rows p)) ≡ higher p (suc v)
   unfolding rows taken
   column_of v less =
