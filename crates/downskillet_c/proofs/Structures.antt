@@ -1,13 +1,11 @@
 -- What the structure of analysed tables is written from.
-use Rattle.std.proofs.Common.{◌≡◌, ℕ, ◌+◌, ◌-◌, ◌≤◌, false, ltb, ◌||◌, List, [], ◌∷◌, take, Ok, Result, subst, sym, ap, ◌∙◌, arith}
+use Rattle.std.proofs.Common.{◌≡◌, ℕ, ◌+◌, ◌-◌, ◌≤◌, false, ltb, ◌||◌, List, [], ◌∷◌, take, Ok, Result, subst, sym, ◌∙◌, arith}
 use Rattle.std.proofs.lemmas.Bool.{or_parts, ltb-false}
-use Rattle.std.proofs.lemmas.List.{get_or-take, length-take-le}
 use Rattle.pattern.specs.Elimination.{total}
 use Rattle.pattern.specs.Patterns.{Pattern}
 use Rattle.pattern.proofs.Arrays.{taken_total}
 use Rattle.analysis.specs.Growth.{pattern_in}
 use Rattle.analysis.specs.Structure.{Found, Room}
-use Rattle.analysis.specs.Tables.{no_vertex, vertex}
 use Rattle.analysis.specs.declared.records.Entry.{Entry}
 use Rattle.analysis.specs.declared.records.Vertex.{Vertex}
 use Rattle.model.specs.declared.refusals.Refusal.{Refusal}

@@ -1,5 +1,5 @@
 -- The front of a table that was analysed.
-use Rattle.std.proofs.Common.{◌≡◌, ℕ, ◌≤◌, List, ◌++◌, length, take, subst, sym, ap, ◌∙◌}
+use Rattle.std.proofs.Common.{◌≡◌, ◌≤◌, List, ◌++◌, length, take, subst, sym, ap, ◌∙◌}
 use Rattle.std.proofs.Math.Seq.{take-append_seam}
 use Rattle.pattern.specs.Patterns.{Pattern}
 use Rattle.analysis.specs.Analysed.{Answered}

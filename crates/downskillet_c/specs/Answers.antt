@@ -1,5 +1,5 @@
 -- What a table of vertices tells, and what an array holds once an answer of each vertex is copied into it.
-use Rattle.std.specs.Prelude.{◌≡◌, ℕ, ◌-◌, ◌<◌, ◌≤◌, min, cond, List, length, drop, nat_lt, slice_index_or, Ok, Err}
+use Rattle.std.specs.Prelude.{◌≡◌, ℕ, ◌-◌, ◌<◌, min, cond, List, length, drop, nat_lt, slice_index_or}
 use Rattle.pattern.specs.Structure.{over}
 use Rattle.analysis.specs.Counts as counts
 use Rattle.analysis.specs.Tables.{no_vertex}

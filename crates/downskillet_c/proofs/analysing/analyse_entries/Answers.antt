@@ -1,7 +1,6 @@
 use Rattle.std.proofs.Common.{subst, sym}
 use Rattle.analysis.specs.Tables.{Sound, pairs_of}
 use Rattle.model.proofs.Rules.{answered}
-use Rattle.downskillet_c.specs.Pairs.{given}
 use Rattle.downskillet_c.proofs.Sounds.{sound_turned}
 use Rattle.downskillet_c.proofs.analysing.analyse_entries.Goals as goal
 

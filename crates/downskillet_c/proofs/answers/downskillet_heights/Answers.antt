@@ -1,7 +1,6 @@
 use Rattle.std.proofs.Common.{rules, arith}
-use Rattle.pattern.specs.Analysis.{place_of, first_place_of, height_of}
-use Rattle.pattern.specs.Elimination.{parent, row_count, col_count}
-use Rattle.downskillet_c.specs.Answers.{height_told, column_told}
+use Rattle.pattern.specs.Analysis.{height_of}
+use Rattle.downskillet_c.specs.Answers.{height_told}
 use Rattle.downskillet_c.proofs.Arrays.{copied_off, told_of}
 use Rattle.downskillet_c.proofs.answers.downskillet_heights.Goals as goal
 

@@ -1,7 +1,5 @@
-use Rattle.std.proofs.Common.{rules, arith}
-use Rattle.pattern.specs.Analysis.{place_of, first_place_of, height_of}
-use Rattle.pattern.specs.Elimination.{parent, row_count, col_count}
-use Rattle.downskillet_c.specs.Answers.{height_told, column_told}
+use Rattle.std.proofs.Common.{rules}
+use Rattle.pattern.specs.Elimination.{row_count}
 use Rattle.downskillet_c.proofs.Arrays.{copied_off, told_of}
 use Rattle.downskillet_c.proofs.answers.downskillet_row_counts.Goals as goal
 

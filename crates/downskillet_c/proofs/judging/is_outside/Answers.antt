@@ -1,4 +1,4 @@
-use Rattle.std.proofs.Common.{rules, ap, not}
+use Rattle.std.proofs.Common.{rules}
 use Rattle.pattern.specs.Patterns.{within}
 use Rattle.downskillet_c.proofs.judging.is_outside.Goals as goal
 
