@@ -37,9 +37,9 @@ extern "C" {
 #define DOWNSKILLET_TOO_MANY_PAIRS 13      /* there are more pairs than entries, or than DOWNSKILLET_MOST_PAIRS */
 #define DOWNSKILLET_ARRAY_TOO_SHORT 16     /* an array for answers or for the structure has too few places */
 
-/* Sizes of the records, for callers that lend plain memory; it is aligned to 8 bytes for vertices, 4 for entries. */
-#define DOWNSKILLET_VERTEX_BYTES 48
-#define DOWNSKILLET_ENTRY_BYTES 12
+/* Sizes of the records, for callers that lend plain memory; it is aligned to 8 bytes for vertices, 2 for entries. */
+#define DOWNSKILLET_VERTEX_BYTES 56
+#define DOWNSKILLET_ENTRY_BYTES 8
 
 /* A record for each vertex: working storage, and after an analysis its answers, which the calls below copy. What it
  * holds before an analysis does not matter. */
@@ -49,8 +49,8 @@ typedef struct {
 
 /* A record for each pair. After an analysis `first` is the lower vertex. */
 typedef struct {
-    uint32_t first, second;
-    uint32_t held[DOWNSKILLET_ENTRY_BYTES / 4 - 2];
+    uint16_t first, second;
+    uint16_t held[DOWNSKILLET_ENTRY_BYTES / 2 - 2];
 } downskillet_entry;
 
 /* The sizes that the library was built with: a program that is linked with another one than this header's sees it. */

@@ -6,15 +6,15 @@ const ORDER: usize = 6;
 #[repr(C)]
 #[derive(Clone, Copy, Default)]
 struct Vertex {
-    held: [u64; 6],
+    held: [u64; 7],
 }
 
 #[repr(C)]
 #[derive(Clone, Copy, Default)]
 struct Entry {
-    first: u32,
-    second: u32,
-    held: [u32; 1],
+    first: u16,
+    second: u16,
+    held: [u16; 2],
 }
 
 type Answer = unsafe extern "C" fn(*const Vertex, usize, *mut u32, usize) -> u32;

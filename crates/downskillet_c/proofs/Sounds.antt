@@ -1,16 +1,18 @@
 -- Pairs that meet no rule make up entries that an analysis may take.
-use Rattle.std.proofs.Common.{◌≡◌, ℕ, ◌<◌, Bool, false, not, eqb, List, [], ◌∷◌, ◌++◌, map, length, get_or, None, Some, Option, sym, subst, arith}
+use Rattle.std.proofs.Common.{◌≡◌, ℕ, ◌<◌, ◌≤◌, Bool, false, not, eqb, ltb, ◌||◌, List, [], ◌∷◌, ◌++◌, map, length, get_or, None, Some, Option, refl, sym, subst, arith}
 use Rattle.std.specs.List.{list_any}
 use Rattle.std.specs.Option.{option_or}
-use Rattle.std.proofs.lemmas.Bool.{eqb-false, not-false, false_from_ne_true}
+use Rattle.std.proofs.lemmas.Bool.{eqb-false, ltb-false, or_parts, not-false, false_from_ne_true}
 use Rattle.std.proofs.lemmas.List.{get_or-map, length-map}
 use Rattle.std.proofs.lemmas.List.Folds.{list_any_at}
 use Rattle.pattern.specs.Patterns.{within}
 use Rattle.pattern.proofs.Tests.{within_parts}
 use Rattle.analysis.specs.Tables.{Sound, SoundPair}
+use Rattle.model.specs.declared.refusals.Refusal.TheVariants.{OrderOutOfRange, TableTooShort, SetsTooSmall}
+use Rattle.model.specs.States as model
 use Rattle.model.specs.States.{first_of}
 use Rattle.model.proofs.Rules.{unmet}
-use Rattle.downskillet_c.specs.Pairs.{turned}
+use Rattle.downskillet_c.specs.Pairs.{turned, Narrow}
 use Rattle.downskillet_c.specs.Refusals.{first_fault, pair_rules, room_rule, working_fault}
 
 -- where none of a list passes a test, one of it does not
@@ -40,3 +42,24 @@ sound_turned n ps vertices entries links none k under =
       rises = omega (arith, apart);
       within = omega (arith, low.fits, high.fits);
     })
+
+first_none : {X : Type 0} (o p : Option X) → option_or o p ≡ None → o ≡ None
+first_none None p none = refl
+first_none (Some x) p none = absurd (cc)
+
+-- and so is the order one of a model
+pub order_few : (n : ℕ) (ps : List (ℕ × ℕ)) (vertices entries links : ℕ) →
+    first_fault n ps vertices entries links ≡ None → n ≤ 16384
+order_few n ps vertices entries links none =
+    let judged : model.first_fault n vertices ≡ None =
+    first_none (model.first_fault n vertices) (first_of ((ltb links n, SetsTooSmall) ∷ []))
+    (first_none (working_fault n vertices links) (first_of (pair_rules n ps ++ room_rule (length ps) entries ∷ [])) none) in
+    let rules = (eqb n 0 || ltb 16384 n, OrderOutOfRange) ∷ (ltb vertices n, TableTooShort) ∷ [] in
+    ltb-false 16384 n (or_parts (eqb n 0) _ (unmet rules judged).0).1
+
+-- so that each higher vertex fits 16 bits
+pub narrow_turned : (n : ℕ) (ps : List (ℕ × ℕ)) (vertices entries links : ℕ) →
+    first_fault n ps vertices entries links ≡ None → Narrow (map turned ps)
+narrow_turned n ps vertices entries links none k under =
+    let pair = sound_turned n ps vertices entries links none k under in
+    omega (arith, pair.within, order_few n ps vertices entries links none)

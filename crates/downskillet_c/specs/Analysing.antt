@@ -2,7 +2,7 @@
 use Rattle.std.specs.Prelude.{◌≡◌, ℕ, ◌≤◌, List, map, length, take, drop}
 use Rattle.pattern.specs.Patterns.{Pattern}
 use Rattle.analysis.specs.Analysed.{Answered}
-use Rattle.analysis.specs.Links.{Listed}
+use Rattle.analysis.specs.Pools.{Listed}
 use Rattle.analysis.specs.Tables.{pairs_of}
 use Rattle.analysis.specs.declared.records.End.TheVariants.{High}
 use Rattle.analysis.specs.declared.records.Entry.{Entry}

@@ -2,7 +2,7 @@
 ghost use Rattle.std.specs.Prelude.{◌≡◌, ◌≤◌, map, length, take, drop, IfOk, MatchResult};
 ghost use Rattle.analysis.specs.Growth.{pattern_of};
 ghost use Rattle.analysis.specs.declared.records.End.TheVariants.{High};
-ghost use Rattle.analysis.specs.Links.{Listed};
+ghost use Rattle.analysis.specs.Pools.{Listed};
 ghost use Rattle.analysis.specs.Tables.{Sound, pairs_of};
 ghost use Rattle.pattern.specs.Elimination as elimination;
 ghost use Rattle.downskillet_c.specs.Analysing.{Analysed, Ready, TableOf, Unchanged};

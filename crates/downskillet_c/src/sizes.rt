@@ -6,14 +6,14 @@ use std::mem::size_of;
 
 #[unsafe(no_mangle)]
 pub extern "C" fn downskillet_vertex_bytes() -> usize
-    ensures { result ≡ 48 }
+    ensures { result ≡ 56 }
 {
     size_of::<Vertex>()
 }
 
 #[unsafe(no_mangle)]
 pub extern "C" fn downskillet_entry_bytes() -> usize
-    ensures { result ≡ 12 }
+    ensures { result ≡ 8 }
 {
     size_of::<Entry>()
 }
