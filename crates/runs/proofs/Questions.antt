@@ -16,7 +16,8 @@ module _ (m : Model) where
       first_refusal (meaning m) (Question v) ≡ None
   accepted v analysed here =
       let vertex = within_parts (meaning m).order v here in
-      let made : eqb (meaning m).order 0 ≡ false = ne_eqb _ _ (λ e. let a = vertex.named in let b = vertex.fits in omega arith) in
+      let made : eqb (meaning m).order 0 ≡ false
+      = ne_eqb _ _ (λ e. omega (arith, vertex.named, vertex.fits, e)) in
       cond-false _ _ _ made ∙ cond-false _ _ _ (ap not here) ∙ cond-false _ _ _ (ap not analysed)
 
   pub asked_of : {X : Type 0} (f : Pattern → ℕ → X) (v : ℕ) → (meaning m).analysed ≡ true →

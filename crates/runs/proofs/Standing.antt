@@ -44,7 +44,9 @@ module _ (m : Model) (analysed : (meaning m).analysed ≡ true) where
             let vertex = within_parts (meaning m).order v here in (
               col_count p v,
               asked_of m col_count v analysed here,
-              omega (arith, ends_at xs v vertex.fits, ends_at xs (v - 1) (omega (arith, vertex.fits)), higher_count p v vertex, taken_next p v vertex),
+              let here = ends_at xs v vertex.fits in
+                  let before = ends_at xs (v - 1) (omega (arith, vertex.fits)) in
+                  omega (arith, here, before, higher_count p v vertex, taken_next p v vertex),
             );
         columns = λ v here. (higher p v, read_back p xs ys v here, higher_lists (meaning m) v);
       }
