@@ -1,9 +1,9 @@
 -- Rows, columns and the fill as lists of the joints that are joined by paths.
-use Rattle.std.proofs.Common.{◌≡◌, ℕ, zero, suc, ◌+◌, ◌<◌, ◌≤◌, Bool, true, ◌&&◌, ◌||◌, eqb, ltb, ◌⊎◌, ◌↔◌, List, length, Ok, refl, sym, ap, ◌∙◌, subst, inl, inr, arith}
+use Rattle.std.proofs.Common.{◌≡◌, ℕ, ◌+◌, Bool, true, ◌&&◌, ltb, ◌⊎◌, sym, subst, inl, inr, arith}
 use Rattle.std.specs.List.Sorted.{IsStrictlyIncreasing}
 use Rattle.std.proofs.lemmas.Bool.{and_parts, and_from, or_cases, or_left, or_right, eqb-true, eq-eqb, ltb-true, lt-ltb}
 use Rattle.std.proofs.lemmas.List.Kept.{IsStrictlyIncreasing-filter}
-use Rattle.pattern.specs.Lists.{upto, keep, occurs}
+use Rattle.pattern.specs.Lists.{upto, keep}
 use Rattle.pattern.specs.Patterns.{within}
 use Rattle.pattern.specs.Elimination.{fill, row, col, row_count, col_count}
 use Rattle.pattern.specs.Structure.{higher}

@@ -1,23 +1,20 @@
 -- The law of a run, and the law between two.
-use Rattle.std.proofs.Common.{◌≡◌, ℕ, ◌<◌, ◌≤◌, true, not, List, length, Result, sym, ap, ◌∙◌, subst}
+use Rattle.std.proofs.Common.{◌≡◌, ℕ, ◌≤◌, true, List, sym, ap, ◌∙◌, subst}
 use Rattle.std.proofs.lemmas.Bool.{and_parts, and_from}
 use Rattle.sets.specs.Meaning.{Sets}
 use Rattle.pattern.specs.Patterns.{Pattern, within}
 use Rattle.pattern.specs.Elimination.{row_count, col_count}
 use Rattle.pattern.specs.Fill.{below, Keeps}
-use Rattle.pattern.specs.Structure.{over, starts, rows}
+use Rattle.pattern.specs.Structure.{over, starts}
 use Rattle.pattern.proofs.Theorems.{entries_keep, fill_by_paths}
 use Rattle.model.specs.Asked.{asked, pattern_held}
 use Rattle.model.specs.Meaning.{meaning}
-use Rattle.model.specs.States.{State, pattern_in}
+use Rattle.model.specs.States.{State}
 use Rattle.model.specs.declared.models.Model.{Model}
-use Rattle.model.specs.declared.refusals.Refusal.{Refusal}
-use Rattle.runs.specs.declared.calls.Call.{Call}
-use Rattle.runs.specs.declared.calls.Reply.{Reply}
 use Rattle.runs.specs.declared.running.Done.{Done}
 use Rattle.runs.specs.declared.running.Run.{Run}
-use Rattle.runs.specs.Laws.{Answers, Grown, LiesBelow, MoreMembers, NoSmaller, Stands}
-use Rattle.runs.specs.Runs.{Lent, Took, after_calls}
+use Rattle.runs.specs.Laws.{Answers, Grown, MoreMembers, NoSmaller, Stands}
+use Rattle.runs.specs.Runs.{Lent, Took}
 use Rattle.runs.specs.WholeRuns.{Between, Lawful, Ran, account_of, analyses, beginning, ends_with, givens, lent_to}
 use Rattle.runs.proofs.Below.{below_is_led, below_lies, lies_below}
 use Rattle.runs.proofs.Counted.{columns_counted, rows_counted}

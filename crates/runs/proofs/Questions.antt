@@ -1,13 +1,12 @@
 -- What an analysed model answers to a question of one of its vertices, and what an answer tells.
-use Rattle.std.proofs.Common.{◌≡◌, ℕ, ◌≤◌, true, false, not, eqb, None, Ok, Result, refl, sym, ap, ◌∙◌, subst, arith}
-use Rattle.std.proofs.lemmas.Bool.{cond-false, ne_eqb, not-false, not_from_true}
+use Rattle.std.proofs.Common.{◌≡◌, ℕ, true, false, not, eqb, None, Ok, ap, ◌∙◌, arith}
+use Rattle.std.proofs.lemmas.Bool.{cond-false, ne_eqb, not-false}
 use Rattle.pattern.specs.Patterns.{Pattern, within}
 use Rattle.pattern.proofs.Tests.{within_parts}
-use Rattle.model.specs.Asked.{asked, told, pattern_held}
+use Rattle.model.specs.Asked.{asked, pattern_held}
 use Rattle.model.specs.Meaning.{meaning}
-use Rattle.model.specs.States.{Given, Question, answer, first_refusal, rules}
+use Rattle.model.specs.States.{Question, answer, first_refusal, rules}
 use Rattle.model.specs.declared.models.Model.{Model}
-use Rattle.model.specs.declared.refusals.Refusal.{Refusal}
 use Rattle.model.proofs.Rules.{answered, unmet}
 
 module _ (m : Model) where

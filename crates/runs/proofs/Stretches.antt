@@ -5,8 +5,7 @@ use Rattle.pattern.specs.Structure.{over, starts, rows}
 use Rattle.sets.specs.Meaning.{Sets}
 use Rattle.model.specs.Meaning.{meaning}
 use Rattle.model.specs.SetsAfter.{sets_after, settled}
-use Rattle.model.specs.States.{State, Given, Analyse, Structure, answer, first_refusal, if_accepted, pattern_in, step}
-use Rattle.model.specs.Written.{starts_after, rows_after}
+use Rattle.model.specs.States.{State, Analyse, Structure, answer, first_refusal, if_accepted, pattern_in, step}
 use Rattle.model.specs.declared.models.Model.{Model}
 use Rattle.model.specs.declared.refusals.Refusal.{Refusal}
 use Rattle.runs.specs.declared.calls.Call.{Call}

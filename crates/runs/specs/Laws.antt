@@ -8,7 +8,6 @@ use Rattle.pattern.specs.Elimination.{parent, fill, row_count, col_count}
 use Rattle.pattern.specs.Paths.{Leads, front, inner, all_under}
 use Rattle.model.specs.Asked.{asked, told}
 use Rattle.model.specs.Columns.{column_in}
-use Rattle.model.specs.Meaning.{meaning}
 use Rattle.model.specs.States.{State, Structure, pattern_in}
 use Rattle.model.specs.Written.{starts_after, rows_after}
 use Rattle.model.specs.declared.models.Model.{Model}

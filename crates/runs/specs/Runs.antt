@@ -1,11 +1,11 @@
 -- A run: what its calls are given, the account that is kept of it, and what they are answered and leave behind.
-use Rattle.std.specs.Prelude.{◌≡◌, ℕ, min, Bool, true, false, cond, ◌&&◌, ◌||◌, List, [], ◌∷◌, map, length, Some, None, Option, Result, is_none, is_some}
+use Rattle.std.specs.Prelude.{◌≡◌, ℕ, min, Bool, cond, ◌&&◌, List, [], ◌∷◌, map, length, Some, None, Option, Result, is_none, is_some}
 use Rattle.pattern.specs.Elimination.{parent, row_count, col_count, total}
 use Rattle.pattern.specs.Analysis.{place_of, first_place_of, height_of}
 use Rattle.pattern.specs.Patterns.{Pattern}
 use Rattle.sets.specs.Meaning.{Sets}
 use Rattle.model.specs.Meaning.{meaning}
-use Rattle.model.specs.States.{State, Given, Put, Drop, Analyse, Question, Total, Structure, answer, first_refusal, made, pattern_in, step}
+use Rattle.model.specs.States.{State, Given, Put, Drop, Analyse, Question, Total, Structure, answer, first_refusal, pattern_in, step}
 use Rattle.model.specs.Written.{rows_after, starts_after}
 use Rattle.model.specs.declared.models.Model.{Model}
 use Rattle.model.specs.declared.refusals.Refusal.{Refusal}

@@ -1,11 +1,8 @@
 -- Whole runs: the making of a model and a list of calls to it, and two such runs beside each other.
-use Rattle.std.specs.Prelude.{◌≡◌, Bool, true, false, ◌||◌, List, map, length, Option, Result, Some, None}
+use Rattle.std.specs.Prelude.{◌≡◌, Bool, true, false, ◌||◌, List, map, length, Option, Some, None}
 use Rattle.sets.specs.Meaning.{Sets}
 use Rattle.model.specs.Meaning.{meaning}
 use Rattle.model.specs.States.{State, Given, Put, Drop, Analyse, Structure, made}
-use Rattle.model.specs.declared.refusals.Refusal.{Refusal}
-use Rattle.runs.specs.declared.calls.Call.{Call}
-use Rattle.runs.specs.declared.calls.Reply.{Reply}
 use Rattle.runs.specs.declared.running.Done.{Done}
 use Rattle.runs.specs.declared.running.Run.{Run}
 use Rattle.runs.specs.Laws.{Answers, Grown, MoreMembers, Stands}
