@@ -70,7 +70,8 @@ module _ (p : Pattern) (v place : ℕ) (starts rows : List ℕ) (few : p.order �
       (placed starts v place (omega (arith, vv.fits)))
 
   -- a root has no first row
-  pub column_root : parent p v ≡ 0 → Filled p v 0 (set starts v place) rows × Rest p starts rows (set starts v place) rows
+  pub column_root : parent p v ≡ 0 →
+      Filled p v 0 (set starts v place) rows × Rest p starts rows (set starts v place) rows
   column_root root = (begun_root p vv before put root, rest_placed p (λ k. get_or rows k 0) vv put)
 
   module _ (u : ℕ) (is : u ≡ parent p v) (some : u ≢ 0) where
@@ -193,8 +194,8 @@ module _ (p : Pattern) (starts rows starts' rows' : List ℕ) (room : Room p (le
   pub rows_over : length rows' ≡ length rows → rows' ≡ over (structure.rows p) rows
   rows_over wide = rows_done p _ _ filled rows rows' wide room.rows (λ _. refl) rest.places
 
--- Row u as far as position k of the list of u: from each lower neighbour before k there, in its newer part, a climb has
--- come.
+-- Row u as far as position k of the list of u: from each lower neighbour before k there, in its newer part, a climb
+-- has come.
 pub record WritingAt (p : Pattern) (n : ℕ) (es : List Entry) (u k : ℕ) (starts rows : List ℕ) : Type 0 where
   pub met : Met High n es u k
   pub climbing : Climbing p u 0 starts rows
@@ -211,7 +212,9 @@ module _ (p : Pattern) (n : ℕ) (es : List Entry) (same : p ≡ pattern_of n es
       Filled p p.order (u - 1) starts rows → WritingAt p n es u k starts rows
   writing_head vs starts rows linked is filled =
       record {
-        met = subst (Met High n es u) (sym is) (met_head High n vs es u linked uu.named (omega (arith, uu.fits, order)));
+        met =
+            subst (Met High n es u) (sym is)
+            (met_head High n vs es u linked uu.named (omega (arith, uu.fits, order)));
         climbing = row_begins p u uu filled;
         climbed = λ j past h e.
             absurd (head_last High n vs es u linked uu.named (omega (arith, uu.fits, order)) j (omega arith) h e);

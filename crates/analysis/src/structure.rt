@@ -1,6 +1,6 @@
-// The structure of the factor: the rows of each column, one column after the other, found row by row. Until its end the
+// The structure of the factor: the rows of each column, one column after the other, found row by row. Until the end the
 // number v of the starts is the cursor of column v: the place that its next row takes. At the end that is where the
-// column ends, and the next one starts. No marks are needed: a column that has a row has it last.
+// column ends, and the next one starts. No marks are needed: the row written last in a column tells whether it has u.
 ghost use Rattle.std.specs.Prelude.{◌≡◌, ◌+◌, ◌-◌, ◌<◌, ◌≤◌, ◌^◌, length, slice_index, slice_set};
 ghost use Rattle.pattern.specs.Elimination as pattern;
 ghost use Rattle.pattern.specs.Filling.{InRow};

@@ -22,6 +22,7 @@ fn empty(rt: HostRuntime) {
     assert_eq!(rt; model.capacity(), 5);
     assert_eq!(rt; model.put(0, 0), Err(Refusal::EmptyModel));
     assert_eq!(rt; model.drop_entry(1, 2), Err(Refusal::EmptyModel));
+    assert_eq!(rt; model.structure(&mut [], &mut []), Err(Refusal::EmptyModel));
 }
 
 #[test]
@@ -67,6 +68,7 @@ fn numbers(rt: HostRuntime) {
     assert_eq!(rt; Refusal::SetsTooSmall.number(), 9);
     assert_eq!(rt; Refusal::VertexOutOfRange(Side::Second).number(), 10);
     assert_eq!(rt; Refusal::NotAnalysed.number(), 15);
+    assert_eq!(rt; Refusal::ArraysTooShort.number(), 16);
 }
 
 #[test]

@@ -29,9 +29,13 @@ pub loop-rows-preserved : goal.loop-rows-preserved
 loop-rows-preserved g c =
     let (found, (room, (row, _))) = c.requires in
     let vertex : Vertex g.p.order c.args.u = record { named = row.0; fits = row.1 } in
-    let at = climb_on g.p _ _ _ _ found vertex _ _ _ _ (record { starts = omega arith; rows = omega arith }) c.loop-rows.invariant.at
-    c.loop-rows-test.true _ _ c.append.ensures.starts c.append.ensures.rows in
-    record { at = at; bounds = climb_bounds g.p _ _ _ _ found vertex _ _ _ _ (record { starts = omega arith; rows = omega arith }) at }
+    let at = climb_on g.p _ _ _ _ found vertex _ _ _ _ (record { starts = omega arith; rows = omega arith })
+    c.loop-rows.invariant.at c.loop-rows-test.true _ _ c.append.ensures.starts c.append.ensures.rows in
+    record {
+      at = at;
+      bounds =
+          climb_bounds g.p _ _ _ _ found vertex _ _ _ _ (record { starts = omega arith; rows = omega arith }) at;
+    }
 
 pub returns : goal.returns
 returns g c =
