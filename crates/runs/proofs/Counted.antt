@@ -1,9 +1,9 @@
 -- Rows, columns and the fill as lists of the joints that are joined by paths.
-use Rattle.std.proofs.Common.{◌≡◌, ℕ, zero, suc, ◌+◌, ◌<◌, ◌≤◌, Bool, true, ◌&&◌, ◌||◌, eqb, ltb, ◌⊎◌, ◌↔◌, List, length, Ok, refl, sym, ap, ◌∙◌, subst, inl, inr, arith}
+use Rattle.std.proofs.Common.{◌≡◌, ℕ, ◌+◌, Bool, true, ◌&&◌, ltb, ◌⊎◌, sym, subst, inl, inr, arith}
 use Rattle.std.specs.List.Sorted.{IsStrictlyIncreasing}
 use Rattle.std.proofs.lemmas.Bool.{and_parts, and_from, or_cases, or_left, or_right, eqb-true, eq-eqb, ltb-true, lt-ltb}
 use Rattle.std.proofs.lemmas.List.Kept.{IsStrictlyIncreasing-filter}
-use Rattle.pattern.specs.Lists.{upto, keep, occurs}
+use Rattle.pattern.specs.Lists.{upto, keep}
 use Rattle.pattern.specs.Patterns.{within}
 use Rattle.pattern.specs.Elimination.{fill, row, col, row_count, col_count}
 use Rattle.pattern.specs.Structure.{higher}
@@ -48,7 +48,8 @@ module _ (s : State) where
 
   joined_ends : (v u : ℕ) → Joined s v u → Vertex s.order v × Vertex s.order u
   joined_ends v u (less, path) =
-      let ends = fill_ends (pattern_in s) v u ((fill_by_paths (pattern_in s) v u less).1 path) in (ends.left, ends.right)
+      let joins = (fill_by_paths (pattern_in s) v u less).1 path in
+      let ends = fill_ends (pattern_in s) v u joins in (ends.left, ends.right)
 
   pub row_lists : (u : ℕ) → Vertex s.order u → Lists (row (pattern_in s) u) (λ v. (v ≡ u) ⊎ Joined s v u)
   unfolding row
@@ -83,10 +84,12 @@ module _ (m : Model) (analysed : (meaning m).analysed ≡ true) where
       Counts (λ v. (v ≡ u) ⊎ Joined (meaning m) v u) (asked row_count m u)
   unfolding row_count
   rows_counted u here =
-      (row (pattern_held m) u, row_lists (meaning m) u (within_parts _ u here), asked_of m row_count u analysed here)
+      let lists = row_lists (meaning m) u (within_parts _ u here) in
+      (row (pattern_held m) u, lists, asked_of m row_count u analysed here)
 
   pub columns_counted : (v : ℕ) → within (meaning m).order v ≡ true →
       Counts (λ u. (u ≡ v) ⊎ Joined (meaning m) v u) (asked col_count m v)
   unfolding col_count
   columns_counted v here =
-      (col (pattern_held m) v, column_lists (meaning m) v (within_parts _ v here), asked_of m col_count v analysed here)
+      let lists = column_lists (meaning m) v (within_parts _ v here) in
+      (col (pattern_held m) v, lists, asked_of m col_count v analysed here)

@@ -1,9 +1,8 @@
--- How a list of calls ends: what follows its last accepted call of a kind leaves the members, the analysis, the arrays.
-use Rattle.std.proofs.Common.{◌≡◌, ℕ, Bool, true, false, ◌&&◌, ◌||◌, cond, not, List, [], ◌∷◌, ◌++◌, map, is_none, is_some, Some, None, Option, ◌⊎◌, inl, inr, refl, sym, ap, ◌∙◌, subst}
+-- How a list of calls ends: what follows its last accepted call of a kind leaves members, analysis and arrays.
+use Rattle.std.proofs.Common.{◌≡◌, ℕ, Bool, true, false, ◌&&◌, ◌||◌, cond, List, [], ◌∷◌, map, is_none, is_some, Some, None, Option, ◌⊎◌, inl, inr, refl, sym, ap, ◌∙◌, subst}
 use Rattle.std.proofs.lemmas.Bool.{and_parts, or_left, or_right}
-use Rattle.pattern.specs.Patterns.{Pattern}
 use Rattle.pattern.specs.Structure.{over, starts, rows}
-use Rattle.model.specs.States.{State, Given, Put, Drop, Analyse, Question, Total, Structure, accepted, first_refusal, if_accepted, pattern_in, step}
+use Rattle.model.specs.States.{State, Given, Put, Drop, Analyse, Structure, accepted, first_refusal, if_accepted, pattern_in, step}
 use Rattle.model.specs.Written.{starts_accepted, starts_after, rows_accepted, rows_after}
 use Rattle.model.specs.declared.refusals.Refusal.{Refusal}
 use Rattle.runs.specs.declared.calls.Call.{Call}
@@ -70,7 +69,8 @@ module _ (kind : Given → Bool) where
   calm : (s : State) (gs : List Given) → last_accepted Kind s gs ≡ None → Calm s (account s gs)
   calm s [] none = record { pattern = refl; analysed = λ e. e }
   calm s (g ∷ gs) none =
-      let (later, spared) = none_left (last_accepted Kind (step s g) gs) (is_none (first_refusal s g) && Kind g) g none in
+      let (later, spared) =
+      none_left (last_accepted Kind (step s g) gs) (is_none (first_refusal s g) && Kind g) g none in
       let now = calm_step s g (narrower _ _ _ (λ e. or_right (kind g) _ e) spared) in
       let then = calm (step s g) gs later in
       record { pattern = then.pattern ∙ now.pattern; analysed = λ e. then.analysed (now.analysed e) }

@@ -1,24 +1,21 @@
 -- The law of a run, and the law between two.
-use Rattle.std.proofs.Common.{◌≡◌, ℕ, ◌<◌, ◌≤◌, true, not, List, length, Result, sym, ap, ◌∙◌, subst}
+use Rattle.std.proofs.Common.{◌≡◌, ℕ, ◌≤◌, true, List, sym, ap, ◌∙◌, subst}
 use Rattle.std.proofs.lemmas.Bool.{and_parts, and_from}
 use Rattle.sets.specs.Meaning.{Sets}
 use Rattle.pattern.specs.Patterns.{Pattern, within}
 use Rattle.pattern.specs.Elimination.{row_count, col_count}
 use Rattle.pattern.specs.Fill.{below, Keeps}
-use Rattle.pattern.specs.Structure.{over, starts, rows}
+use Rattle.pattern.specs.Structure.{over, starts}
 use Rattle.pattern.proofs.Theorems.{entries_keep, fill_by_paths}
 use Rattle.model.specs.Asked.{asked, pattern_held}
 use Rattle.model.specs.Meaning.{meaning}
-use Rattle.model.specs.States.{State, pattern_in}
+use Rattle.model.specs.States.{State}
 use Rattle.model.specs.declared.models.Model.{Model}
-use Rattle.model.specs.declared.refusals.Refusal.{Refusal}
-use Rattle.runs.specs.declared.calls.Call.{Call}
-use Rattle.runs.specs.declared.calls.Reply.{Reply}
 use Rattle.runs.specs.declared.running.Done.{Done}
 use Rattle.runs.specs.declared.running.Run.{Run}
-use Rattle.runs.specs.Laws.{Answers, Grown, LiesBelow, MoreMembers, NoSmaller, Stands}
-use Rattle.runs.specs.Runs.{Lent, after_calls}
-use Rattle.runs.specs.WholeRuns.{Between, Lawful, Ran, account_of, beginning, givens, lent_to}
+use Rattle.runs.specs.Laws.{Answers, Grown, MoreMembers, NoSmaller, Stands}
+use Rattle.runs.specs.Runs.{Lent, Took}
+use Rattle.runs.specs.WholeRuns.{Between, Lawful, Ran, account_of, analyses, beginning, ends_with, givens, lent_to}
 use Rattle.runs.proofs.Below.{below_is_led, below_lies, lies_below}
 use Rattle.runs.proofs.Counted.{columns_counted, rows_counted}
 use Rattle.runs.proofs.Endings.{Written, ends_analysed, ends_written}
@@ -73,17 +70,20 @@ module _ (m k : Model) (analysed : (meaning m).analysed ≡ true) (analysed' : (
         above = λ v u l. below_lies k analysed' v u (still_below v u (lies_below m v u l));
       }
 
-module _ {S A : Type 0} (meanings : S → List Sets) (run : Run S A) (took : A → Call → Result Reply Refusal → A → Type 0)
-    (done : Done S A) (ran : Ran meanings run took done) where
+module _ {S A : Type 0} (meanings : S → List Sets) (run : Run S A) (took : Took A) (done : Done S A)
+    (ran : Ran meanings run took done) where
+  pub analysed_after : ends_with analyses (beginning meanings run) (givens meanings run) ≡ true →
+      (meaning done.model).analysed ≡ true
+  analysed_after ends =
+      ap (λ s. s.analysed) ran.state ∙ ends_analysed (beginning meanings run) (givens meanings run) ends
+
   pub lawful : Lawful meanings run done
   lawful =
       let m = done.model in
       let Answering : State → Type 0 = λ s. Answers s m in
       let Standing : State → Type 0 = λ s. Stands s m done.starts.now done.rows.now in
       record {
-        answers = λ ends.
-            let analysed = ap (λ s. s.analysed) ran.state ∙ ends_analysed (beginning meanings run) (givens meanings run) ends in
-            subst Answering ran.state (answers m analysed);
+        answers = λ ends. subst Answering ran.state (answers m (analysed_after ends));
         arrays = λ ends.
             let l = lent_to meanings run in
             let w = ends_written l (beginning meanings run) run.calls.now l ends in
@@ -93,15 +93,15 @@ module _ {S A : Type 0} (meanings : S → List Sets) (run : Run S A) (took : A �
             (standing m done.starts.now done.rows.now (subst Within (sym ran.state) (subst Held (sym ran.lent) w)));
       }
 
-pub between : {S A T B : Type 0} (f : S → List Sets) (g : T → List Sets)
-    (took : A → Call → Result Reply Refusal → A → Type 0) (took' : B → Call → Result Reply Refusal → B → Type 0)
+pub between : {S A T B : Type 0} (f : S → List Sets) (g : T → List Sets) (took : Took A) (took' : Took B)
     (first : Run S A) (second : Run T B) (one : Done S A) (two : Done T B) →
     Ran f first took one → Ran g second took' two → Between f g first second one two
 between f g took took' first second one two ran ran' ends ends' same more =
-    let analysed = ap (λ s. s.analysed) ran.state ∙ ends_analysed (beginning f first) (givens f first) ends in
-    let analysed' = ap (λ s. s.analysed) ran'.state ∙ ends_analysed (beginning g second) (givens g second) ends' in
+    let analysed = analysed_after f first took one ran ends in
+    let analysed' = analysed_after g second took' two ran' ends' in
     let s = account_of f first in
-    let More : State → State → Type 0 = λ s t. s.order ≡ t.order → MoreMembers s t → Grown s.order one.model two.model in
+    let More : State → State → Type 0
+    = λ s t. s.order ≡ t.order → MoreMembers s t → Grown s.order one.model two.model in
     let First : State → Type 0 = λ s. More s (meaning two.model) in
     let Second : State → Type 0 = λ t. More s t in
     subst Second ran'.state (subst First ran.state (grown one.model two.model analysed analysed')) same more

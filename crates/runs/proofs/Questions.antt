@@ -1,13 +1,12 @@
 -- What an analysed model answers to a question of one of its vertices, and what an answer tells.
-use Rattle.std.proofs.Common.{◌≡◌, ℕ, ◌≤◌, true, false, not, eqb, None, Ok, Result, refl, sym, ap, ◌∙◌, subst, arith}
-use Rattle.std.proofs.lemmas.Bool.{cond-false, ne_eqb, not-false, not_from_true}
+use Rattle.std.proofs.Common.{◌≡◌, ℕ, true, false, not, eqb, None, Ok, ap, ◌∙◌, arith}
+use Rattle.std.proofs.lemmas.Bool.{cond-false, ne_eqb, not-false}
 use Rattle.pattern.specs.Patterns.{Pattern, within}
 use Rattle.pattern.proofs.Tests.{within_parts}
-use Rattle.model.specs.Asked.{asked, told, pattern_held}
+use Rattle.model.specs.Asked.{asked, pattern_held}
 use Rattle.model.specs.Meaning.{meaning}
-use Rattle.model.specs.States.{Given, Question, answer, first_refusal, rules}
+use Rattle.model.specs.States.{Question, answer, first_refusal, rules}
 use Rattle.model.specs.declared.models.Model.{Model}
-use Rattle.model.specs.declared.refusals.Refusal.{Refusal}
 use Rattle.model.proofs.Rules.{answered, unmet}
 
 module _ (m : Model) where
@@ -16,7 +15,8 @@ module _ (m : Model) where
       first_refusal (meaning m) (Question v) ≡ None
   accepted v analysed here =
       let vertex = within_parts (meaning m).order v here in
-      let made : eqb (meaning m).order 0 ≡ false = ne_eqb _ _ (λ e. let a = vertex.named in let b = vertex.fits in omega arith) in
+      let made : eqb (meaning m).order 0 ≡ false
+      = ne_eqb _ _ (λ e. omega (arith, vertex.named, vertex.fits, e)) in
       cond-false _ _ _ made ∙ cond-false _ _ _ (ap not here) ∙ cond-false _ _ _ (ap not analysed)
 
   pub asked_of : {X : Type 0} (f : Pattern → ℕ → X) (v : ℕ) → (meaning m).analysed ≡ true →

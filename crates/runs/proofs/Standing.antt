@@ -1,17 +1,15 @@
 -- Arrays that begin with the starts and the rows of the pattern held have the structure standing in them.
-use Rattle.std.proofs.Common.{◌≡◌, ℕ, zero, suc, ◌+◌, ◌-◌, ◌<◌, ◌≤◌, true, List, ◌++◌, length, drop, get_or, None, Ok, Option, refl, sym, ap, ◌∙◌, subst, arith}
+use Rattle.std.proofs.Common.{◌≡◌, ℕ, ◌+◌, ◌-◌, ◌≤◌, true, List, length, drop, get_or, Option, sym, ◌∙◌, subst, arith}
 use Rattle.std.proofs.Math.Seq.{drop-append_seam}
 use Rattle.std.proofs.lemmas.List.{length-append, get_or_append_left}
-use Rattle.pattern.specs.Patterns.{within}
 use Rattle.pattern.specs.Elimination.{col_count}
 use Rattle.pattern.specs.Structure.{higher, over, starts, rows, taken}
-use Rattle.pattern.proofs.Tests.{Vertex, within_parts}
+use Rattle.pattern.proofs.Tests.{within_parts}
 use Rattle.pattern.proofs.Columns.{columns, higher_count, start_at, taken_next}
 use Rattle.pattern.proofs.Arrays.{taken_none, taken_total}
-use Rattle.model.specs.Asked.{pattern_held, told}
-use Rattle.model.specs.Columns.{column_in}
+use Rattle.model.specs.Asked.{pattern_held}
 use Rattle.model.specs.Meaning.{meaning}
-use Rattle.model.specs.States.{Structure, first_refusal, if_accepted}
+use Rattle.model.specs.States.{if_accepted}
 use Rattle.model.specs.declared.models.Model.{Model}
 use Rattle.model.specs.declared.refusals.Refusal.{Refusal}
 use Rattle.model.proofs.ReadBack.{read_back}
@@ -44,7 +42,9 @@ module _ (m : Model) (analysed : (meaning m).analysed ≡ true) where
             let vertex = within_parts (meaning m).order v here in (
               col_count p v,
               asked_of m col_count v analysed here,
-              omega (arith, ends_at xs v vertex.fits, ends_at xs (v - 1) (omega (arith, vertex.fits)), higher_count p v vertex, taken_next p v vertex),
+              let here = ends_at xs v vertex.fits in
+                  let before = ends_at xs (v - 1) (omega (arith, vertex.fits)) in
+                  omega (arith, here, before, higher_count p v vertex, taken_next p v vertex),
             );
         columns = λ v here. (higher p v, read_back p xs ys v here, higher_lists (meaning m) v);
       }

@@ -5,15 +5,14 @@ use Rattle.pattern.specs.Structure.{over, starts, rows}
 use Rattle.sets.specs.Meaning.{Sets}
 use Rattle.model.specs.Meaning.{meaning}
 use Rattle.model.specs.SetsAfter.{sets_after, settled}
-use Rattle.model.specs.States.{State, Given, Analyse, Structure, answer, first_refusal, if_accepted, pattern_in, step}
-use Rattle.model.specs.Written.{starts_after, rows_after}
+use Rattle.model.specs.States.{State, Analyse, Structure, answer, first_refusal, if_accepted, pattern_in, step}
 use Rattle.model.specs.declared.models.Model.{Model}
 use Rattle.model.specs.declared.refusals.Refusal.{Refusal}
 use Rattle.runs.specs.declared.calls.Call.{Call}
 use Rattle.runs.specs.declared.calls.Call.TheVariants as calls
 use Rattle.runs.specs.declared.calls.Reply.{Reply}
 use Rattle.runs.specs.Lending.{size_at, analysed_at}
-use Rattle.runs.specs.Runs.{Lent, given, account, reply, said, Replied, after_call, after_calls, Turned}
+use Rattle.runs.specs.Runs.{Lent, given, account, reply, said, Replied, Took, after_call, after_calls, Turned}
 use Rattle.runs.proofs.Windows.{accepted_structure}
 
 -- what calls are given is the same by k as by l
@@ -68,15 +67,15 @@ left_alike s _ k =
 
 -- from a run of the calls cs on the model m, lent l, with the sink p: the calls ds that are left do to the model n, to
 -- what k holds and to the sink q what all the calls do to them as they were
-pub record Goes {A : Type 0} (took : A → Call → Result Reply Refusal → A → Type 0) (cs : List Call) (m : Model) (l : Lent)
-    (p : A) (ds : List Call) (n : Model) (k : Lent) (q : A) : Type 0 where
+pub record Goes {A : Type 0} (took : Took A) (cs : List Call) (m : Model) (l : Lent) (p : A)
+    (ds : List Call) (n : Model) (k : Lent) (q : A) : Type 0 where
   pub state : account (meaning n) (map (given l) ds) ≡ account (meaning m) (map (given l) cs)
   pub replies : (end : A) → Replied took l (meaning n) ds q end → Replied took l (meaning m) cs p end
   pub lent : after_calls l (meaning n) ds k ≡ after_calls l (meaning m) cs l
   pub table : length n.store.vertices.now ≡ length m.store.vertices.now
   pub alike : Alike l k
 
-module _ {A : Type 0} (took : A → Call → Result Reply Refusal → A → Type 0) (cs : List Call) (m : Model) (l : Lent) (p : A) where
+module _ {A : Type 0} (took : Took A) (cs : List Call) (m : Model) (l : Lent) (p : A) where
   pub goes_on : (c : Call) (ds es : List Call) (n o : Model) (k j : Lent) (q r : A) (answered : Result Reply Refusal)
       → es ≡ c ∷ ds
       → Turned c n o k j answered
@@ -88,7 +87,8 @@ module _ {A : Type 0} (took : A → Call → Result Reply Refusal → A → Type
       let stepped : meaning o ≡ step (meaning n) (given l c) = turn.state ∙ ap (step (meaning n)) same in
       let replied : answered ≡ reply l (meaning n) c
       = turn.reply ∙ ap (λ g. answer (first_refusal (meaning n) g) (said (meaning n) c)) same in
-      let leaves : j ≡ after_call (meaning n) (given l c) c k = turn.lent ∙ ap (λ g. after_call (meaning n) g c k) same in
+      let leaves : j ≡ after_call (meaning n) (given l c) c k
+      = turn.lent ∙ ap (λ g. after_call (meaning n) g c k) same in
       let after : Alike k j = subst (Alike k) (sym turn.lent) (left_alike (meaning n) c k) in
       record {
         state =

@@ -8,7 +8,6 @@ use Rattle.pattern.specs.Elimination.{parent, fill, row_count, col_count}
 use Rattle.pattern.specs.Paths.{Leads, front, inner, all_under}
 use Rattle.model.specs.Asked.{asked, told}
 use Rattle.model.specs.Columns.{column_in}
-use Rattle.model.specs.Meaning.{meaning}
 use Rattle.model.specs.States.{State, Structure, pattern_in}
 use Rattle.model.specs.Written.{starts_after, rows_after}
 use Rattle.model.specs.declared.models.Model.{Model}
@@ -41,7 +40,7 @@ abbrev pub Counts : (ℕ → Type 0) → Result ℕ Refusal → Type 0
 Counts P r = (xs : List ℕ) × Lists xs P × (r ≡ Ok (length xs))
 
 -- The structure stands at the beginning of two arrays: the first start is 0, each next one is greater by the column
--- count answered less 1, and from each start to the next stand the joints above that the column's joint is joined to.
+-- count answered less 1, and from the start of v to the next stand just the joints that v is joined to, ascending.
 pub record Stands (s : State) (m : Model) (starts rows : List ℕ) : Type 0 where
   pub long : s.order < length starts
   pub begins : slice_index starts 0 ≡ 0

@@ -1,11 +1,11 @@
 -- A run: what its calls are given, the account that is kept of it, and what they are answered and leave behind.
-use Rattle.std.specs.Prelude.{◌≡◌, ℕ, min, Bool, true, false, cond, ◌&&◌, ◌||◌, List, [], ◌∷◌, map, length, Some, None, Option, Result, is_none, is_some}
+use Rattle.std.specs.Prelude.{◌≡◌, ℕ, min, Bool, cond, ◌&&◌, List, [], ◌∷◌, map, length, Some, None, Option, Result, is_none, is_some}
 use Rattle.pattern.specs.Elimination.{parent, row_count, col_count, total}
 use Rattle.pattern.specs.Analysis.{place_of, first_place_of, height_of}
 use Rattle.pattern.specs.Patterns.{Pattern}
 use Rattle.sets.specs.Meaning.{Sets}
 use Rattle.model.specs.Meaning.{meaning}
-use Rattle.model.specs.States.{State, Given, Put, Drop, Analyse, Question, Total, Structure, answer, first_refusal, made, pattern_in, step}
+use Rattle.model.specs.States.{State, Given, Put, Drop, Analyse, Question, Total, Structure, answer, first_refusal, pattern_in, step}
 use Rattle.model.specs.Written.{rows_after, starts_after}
 use Rattle.model.specs.declared.models.Model.{Model}
 use Rattle.model.specs.declared.refusals.Refusal.{Refusal}
@@ -70,9 +70,12 @@ said s (calls.Structure starts rows) = replies.Written
 abbrev pub reply : Lent → State → Call → Result Reply Refusal
 reply l s c = answer (first_refusal s (given l c)) (said s c)
 
+-- what a sink makes of the reply to a call
+abbrev pub Took : Type 0 → Type 1
+Took A = A → Call → Result Reply Refusal → A → Type 0
+
 -- from the sink p to the sink q, the replies to calls are taken, one after the other
-abbrev pub Replied : {A : Type 0} → (A → Call → Result Reply Refusal → A → Type 0) → Lent → State → List Call → A → A
-    → Type 0
+abbrev pub Replied : {A : Type 0} → Took A → Lent → State → List Call → A → A → Type 0
 Replied took l s [] p q = p ≡ q
 Replied {A} took l s (c ∷ cs) p q = (j : A) × took p c (reply l s c) j × Replied took l (step s (given l c)) cs j q
 
@@ -98,8 +101,8 @@ pub record Turned (c : Call) (m n : Model) (l k : Lent) (r : Result Reply Refusa
   pub table : length n.store.vertices.now ≡ length m.store.vertices.now
 
 -- A stretch of calls took the model from m to n, what is lent from l to k, and the sink from p to q.
-pub record Performed {A : Type 0} (took : A → Call → Result Reply Refusal → A → Type 0) (cs : List Call)
-    (m n : Model) (l k : Lent) (p q : A) : Type 0 where
+pub record Performed {A : Type 0} (took : Took A) (cs : List Call) (m n : Model) (l k : Lent) (p q : A)
+    : Type 0 where
   pub state : meaning n ≡ account (meaning m) (map (given l) cs)
   pub replies : Replied took l (meaning m) cs p q
   pub lent : k ≡ after_calls l (meaning m) cs l

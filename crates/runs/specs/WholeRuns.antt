@@ -1,15 +1,12 @@
 -- Whole runs: the making of a model and a list of calls to it, and two such runs beside each other.
-use Rattle.std.specs.Prelude.{◌≡◌, Bool, true, false, ◌||◌, List, map, length, Option, Result, Some, None}
+use Rattle.std.specs.Prelude.{◌≡◌, Bool, true, false, ◌||◌, List, map, length, Option, Some, None}
 use Rattle.sets.specs.Meaning.{Sets}
 use Rattle.model.specs.Meaning.{meaning}
 use Rattle.model.specs.States.{State, Given, Put, Drop, Analyse, Structure, made}
-use Rattle.model.specs.declared.refusals.Refusal.{Refusal}
-use Rattle.runs.specs.declared.calls.Call.{Call}
-use Rattle.runs.specs.declared.calls.Reply.{Reply}
 use Rattle.runs.specs.declared.running.Done.{Done}
 use Rattle.runs.specs.declared.running.Run.{Run}
 use Rattle.runs.specs.Laws.{Answers, Grown, MoreMembers, Stands}
-use Rattle.runs.specs.Runs.{Lent, lending, given, account, last_accepted, after_calls, Replied}
+use Rattle.runs.specs.Runs.{Lent, lending, given, account, last_accepted, after_calls, Replied, Took}
 
 -- a put or a drop, an analysis, a structure call
 abbrev pub changes : Given → Bool
@@ -33,7 +30,7 @@ passes kind None = false
 abbrev pub ends_with : (Given → Bool) → State → List Given → Bool
 ends_with kind s gs = passes kind (last_accepted (λ g. kind g || changes g) s gs)
 
--- what a run is given: the model as it is made of its order and the lengths of its tables, and what its calls are given
+-- what a run is given: its model as it is made, by the order and the lengths of the tables, and what its calls are given
 module _ {S A : Type 0} (meanings : S → List Sets) (run : Run S A) where
   abbrev pub lent_to : Lent
   lent_to = lending (meanings run.sets) run.starts.now run.rows.now
@@ -47,9 +44,9 @@ module _ {S A : Type 0} (meanings : S → List Sets) (run : Run S A) where
   abbrev pub account_of : State
   account_of = account beginning givens
 
-  -- What a run makes of all this: the model stands as the account says, the sink has taken the replies, and the sets and
-  -- the arrays hold what the accepted calls leave in them. The arrays handed back are those that were lent.
-  pub record Ran (took : A → Call → Result Reply Refusal → A → Type 0) (done : Done S A) : Type 0 where
+  -- What a run makes of all this: the model stands as the account says, the sink has taken the replies, and the sets
+  -- and the arrays hold what the accepted calls leave in them. The arrays handed back are those that were lent.
+  pub record Ran (took : Took A) (done : Done S A) : Type 0 where
     pub state : meaning done.model ≡ account_of
     pub replies : Replied took lent_to beginning run.calls.now run.replies done.replies
     pub lent : lending (meanings done.sets) done.starts.now done.rows.now
@@ -59,10 +56,11 @@ module _ {S A : Type 0} (meanings : S → List Sets) (run : Run S A) where
     pub rows : done.rows.ghost_name ≡ run.rows.ghost_name
 
   -- The law of a run. If its last accepted put, drop or analysis is an analysis, the model answers by the paths of the
-  -- members; and if its last accepted put, drop or structure call is a structure call, its own arrays hold the structure.
+  -- members. If its last accepted put, drop or structure call is a structure call, the structure stands in its arrays.
   pub record Lawful (done : Done S A) : Type 0 where
     pub answers : ends_with analyses beginning givens ≡ true → Answers account_of done.model
-    pub arrays : ends_with structures beginning givens ≡ true → Stands account_of done.model done.starts.now done.rows.now
+    pub arrays : ends_with structures beginning givens ≡ true →
+        Stands account_of done.model done.starts.now done.rows.now
 
 -- The law between two runs of one order, both ending with an analysis, where every member after the first is one after
 -- the second.

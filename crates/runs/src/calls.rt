@@ -1,7 +1,7 @@
 // The calls of a run, and what they are answered.
 
 // What is asked of a vertex.
-#[derive(Clone, Copy, PartialEq, Eq, Debug)]
+#[derive(Clone, Copy)]
 pub enum Question {
     Parent,
     Place,
@@ -11,7 +11,7 @@ pub enum Question {
     ColumnCount,
 }
 
-#[derive(Clone, Copy, PartialEq, Eq, Debug)]
+#[derive(Clone, Copy)]
 pub enum Call {
     Put { i: u32, j: u32 },
     Drop { i: u32, j: u32 },
@@ -24,7 +24,7 @@ pub enum Call {
 }
 
 // What an accepted call is answered.
-#[derive(Clone, Copy, PartialEq, Eq, Debug)]
+#[derive(Clone, Copy)]
 pub enum Reply {
     // how many entries are held after a put or a drop
     Held(u32),

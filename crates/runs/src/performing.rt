@@ -33,7 +33,8 @@ fn write_structure(
     starts: &mut [u32],
     rows: &mut [u32],
 ) -> Result<(), Refusal>
-    ensures answer { result ≡ told model.now (Structure (min long (length starts.old)) (min wide (length rows.old))) tt }
+    ensures answer { result ≡ told model.now
+        (Structure (min long (length starts.old)) (min wide (length rows.old))) tt }
     ensures starts { starts.new ≡ starts_after (meaning model.now)
         (Structure (min long (length starts.old)) (min wide (length rows.old))) starts.old }
     ensures rows { rows.new ≡ rows_after (meaning model.now)
@@ -56,15 +57,13 @@ fn carry_out<S: LentSets>(
         (lending (S.meanings sets.new) starts.new rows.new) result }
 {
     match call {
-        Call::Put { i, j } => model.put(i, j).map(|held| Reply::Held(held)),
-        Call::Drop { i, j } => model.drop_entry(i, j).map(|held| Reply::Held(held)),
-        Call::Analyse { sets: index } => sets
-            .analyse(index, model)
-            .map(|total| Reply::Total(total)),
+        Call::Put { i, j } => model.put(i, j).map(Reply::Held),
+        Call::Drop { i, j } => model.drop_entry(i, j).map(Reply::Held),
+        Call::Analyse { sets: index } => sets.analyse(index, model).map(Reply::Total),
         Call::Ask { question, vertex } => {
-            read_number(model, question, vertex).map(|number| Reply::Number(number))
+            read_number(model, question, vertex).map(Reply::Number)
         }
-        Call::Total => model.total().map(|total| Reply::Total(total)),
+        Call::Total => model.total().map(Reply::Total),
         Call::Structure {
             starts: long,
             rows: wide,

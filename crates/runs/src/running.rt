@@ -8,7 +8,7 @@ use crate::sinks::Replies;
 use analysis::records::{Entry, Vertex};
 use model::{Model, make};
 
-// What a run is given and lent.
+// What a run is given: the order and the tables to make its model, the calls, and what is lent for them.
 #[derive(Drop)]
 pub struct Run<'a, S, A> {
     pub order: u32,
@@ -21,7 +21,7 @@ pub struct Run<'a, S, A> {
     pub replies: A,
 }
 
-// What it hands back.
+// What it hands back: the model, and what was lent for the calls.
 #[derive(Drop)]
 pub struct Done<'a, S, A> {
     pub model: Model<'a>,
@@ -31,6 +31,7 @@ pub struct Done<'a, S, A> {
     pub replies: A,
 }
 
+// One run: makes the model and carries out the calls.
 fn make_and_perform<'a, S: LentSets, A: Replies>(given: Run<'a, S, A>) -> Done<'a, S, A>
     ensures { Ran S.meanings given.entry A.took result }
 {
@@ -57,6 +58,8 @@ fn make_and_perform<'a, S: LentSets, A: Replies>(given: Run<'a, S, A>) -> Done<'
     }
 }
 
+// Two runs, one after the other. The law over runs stands here: what the model of each answers after it, told by paths
+// of its members alone, and how the answers of the two compare where the second has every member of the first.
 pub fn run_both<'a, 'b, S: LentSets, A: Replies, T: LentSets, B: Replies>(
     first: Run<'a, S, A>,
     second: Run<'b, T, B>,
