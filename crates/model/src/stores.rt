@@ -37,9 +37,8 @@ impl Store<'_> {
     pub(crate) fn find(&self, pair: Pair) -> Option<usize>
         ensures { result ≡ index_of pair (held_by self.now) }
     {
-        self.entries[..self.held as usize]
-            .iter()
-            .position(|entry| entry.low as u32 == pair.low && entry.high as u32 == pair.high)
+        self.entries[..self.held as usize].iter().position(|entry| entry.low as u32 == pair.low
+            && entry.high as u32 == pair.high)
     }
 
     // Holds one more entry, after the others.
