@@ -64,7 +64,7 @@ pub struct Tables {
 }
 
 impl Tables {
-    pub fn new(
+    pub(crate) fn new(
         alloc: Global,
         structure: &Structure,
         capacity: usize,
@@ -88,7 +88,7 @@ impl Tables {
     }
 
     /// Compares all answers, with every kind of sets.
-    pub fn compare(
+    pub(crate) fn compare(
         &mut self,
         pattern: &Pattern,
         script: &Script,

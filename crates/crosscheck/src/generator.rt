@@ -5,12 +5,12 @@ pub struct Generator {
 }
 
 impl Generator {
-    pub fn new(seed: u64) -> Generator {
+    pub(crate) fn new(seed: u64) -> Generator {
         Generator { state: seed }
     }
 
     /// The next number, any of 64 bits.
-    pub fn number(&mut self) -> u64 {
+    pub(crate) fn number(&mut self) -> u64 {
         self.state = self.state.wrapping_add(0x9E37_79B9_7F4A_7C15);
         let first = (self.state ^ (self.state >> 30)).wrapping_mul(0xBF58_476D_1CE4_E5B9);
         let second = (first ^ (first >> 27)).wrapping_mul(0x94D0_49BB_1331_11EB);
@@ -18,7 +18,7 @@ impl Generator {
     }
 
     /// A number from 1 to `limit`; 0 if there is none.
-    pub fn up_to(&mut self, limit: u32) -> u32 {
+    pub(crate) fn up_to(&mut self, limit: u32) -> u32 {
         if limit == 0 {
             return 0;
         }
@@ -26,7 +26,7 @@ impl Generator {
     }
 
     /// Whether what happens so many times of sixteen happens.
-    pub fn happens(&mut self, sixteenths: u32) -> bool {
+    pub(crate) fn happens(&mut self, sixteenths: u32) -> bool {
         self.up_to(16) <= sixteenths
     }
 }

@@ -9,13 +9,13 @@ use std::alloc::{AllocError, Global};
 const ORDER_REFUSED: u32 = 8;
 
 /// Whether the largest order is taken, with a vertex table of that size.
-pub fn takes_largest_order(alloc: Global) -> Result<bool, AllocError> {
+pub(crate) fn takes_largest_order(alloc: Global) -> Result<bool, AllocError> {
     let mut vertices = vertex_table(alloc, LARGE)?;
     Ok(judge(LARGE, &vertices).is_ok() && make(LARGE, &mut vertices, &mut []).order() == LARGE)
 }
 
 /// Whether an order of one more is refused by its number, with a vertex table of that size.
-pub fn refuses_larger_order(alloc: Global) -> Result<bool, AllocError> {
+pub(crate) fn refuses_larger_order(alloc: Global) -> Result<bool, AllocError> {
     let order = LARGE + 1;
     let mut vertices = vertex_table(alloc, order)?;
     let is_refused = match judge(order, &vertices) {
@@ -26,7 +26,7 @@ pub fn refuses_larger_order(alloc: Global) -> Result<bool, AllocError> {
 }
 
 /// Whether a model with room for one entry takes a put, its drop and another put.
-pub fn takes_one_entry_after_another(alloc: Global) -> Result<bool, AllocError> {
+pub(crate) fn takes_one_entry_after_another(alloc: Global) -> Result<bool, AllocError> {
     let mut vertices = vertex_table(alloc, 3)?;
     let mut entries = [Entry::new()];
     let mut model = make(3, &mut vertices, &mut entries);

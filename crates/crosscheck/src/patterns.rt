@@ -83,7 +83,7 @@ impl Family {
         Family::Renumbered,
     ];
 
-    pub fn patterns(
+    pub(crate) fn patterns(
         self,
         alloc: Global,
         generator: &mut Generator,

@@ -34,7 +34,7 @@ pub struct Structure {
 }
 
 impl Structure {
-    pub fn new(alloc: Global, order: u32, pairs: &[Pair]) -> Result<Structure, AllocError> {
+    pub(crate) fn new(alloc: Global, order: u32, pairs: &[Pair]) -> Result<Structure, AllocError> {
         let columns = columns(alloc, order, pairs)?;
         let parents = parents(alloc, order, &columns)?;
         let places = places(alloc, order, &parents)?;
@@ -54,7 +54,7 @@ impl Structure {
     }
 
     /// The rows of a column below its diagonal.
-    pub fn column(&self, vertex: u32) -> &[u32] {
+    pub(crate) fn column(&self, vertex: u32) -> &[u32] {
         below_diagonal(self.columns.of(vertex))
     }
 }

@@ -24,7 +24,7 @@ pub struct Script {
 impl Script {
     /// Each entry of the pattern is put at any time, some are dropped and put once more, and a few others are put
     /// and dropped again. Each entry is named from either end.
-    pub fn new(
+    pub(crate) fn new(
         alloc: Global,
         pattern: &Pattern,
         generator: &mut Generator,

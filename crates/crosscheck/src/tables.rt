@@ -7,17 +7,17 @@ pub struct Numbers {
 }
 
 impl Numbers {
-    pub fn new(alloc: Global, order: u32) -> Result<Numbers, AllocError> {
+    pub(crate) fn new(alloc: Global, order: u32) -> Result<Numbers, AllocError> {
         Ok(Numbers {
             items: vec![in alloc; 0; order as usize + 1]?,
         })
     }
 
-    pub fn of(&self, vertex: u32) -> u32 {
+    pub(crate) fn of(&self, vertex: u32) -> u32 {
         self.items.get(vertex as usize).copied().unwrap_or(0)
     }
 
-    pub fn set(&mut self, vertex: u32, number: u32) {
+    pub(crate) fn set(&mut self, vertex: u32, number: u32) {
         if let Some(place) = self.items.get_mut(vertex as usize) {
             *place = number;
         }
@@ -31,7 +31,7 @@ pub struct Lists {
 }
 
 impl Lists {
-    pub fn new(alloc: Global, order: u32) -> Result<Lists, AllocError> {
+    pub(crate) fn new(alloc: Global, order: u32) -> Result<Lists, AllocError> {
         let mut items = Vec::new(alloc);
         for _ in 0..u64::from(order) + 1 {
             items.push(Vec::new(alloc))?;
@@ -39,21 +39,21 @@ impl Lists {
         Ok(Lists { items })
     }
 
-    pub fn of(&self, vertex: u32) -> &[u32] {
+    pub(crate) fn of(&self, vertex: u32) -> &[u32] {
         match self.items.get(vertex as usize) {
             Some(list) => list.as_slice(),
             None => &[],
         }
     }
 
-    pub fn push(&mut self, vertex: u32, number: u32) -> Result<(), AllocError> {
+    pub(crate) fn push(&mut self, vertex: u32, number: u32) -> Result<(), AllocError> {
         if let Some(list) = self.items.get_mut(vertex as usize) {
             list.push(number)?;
         }
         Ok(())
     }
 
-    pub fn set(&mut self, vertex: u32, list: Vec<u32>) {
+    pub(crate) fn set(&mut self, vertex: u32, list: Vec<u32>) {
         if let Some(place) = self.items.get_mut(vertex as usize) {
             *place = list;
         }

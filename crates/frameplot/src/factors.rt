@@ -95,7 +95,7 @@ fn draw_numbers<W: Write>(out: &mut W, model: &Model<'_>, v: u32) -> io::Result<
 }
 
 // The factor of an analysed model, of which these are the columns.
-pub fn draw_factor<W: Write>(
+pub(crate) fn draw_factor<W: Write>(
     out: &mut W,
     model: &Model<'_>,
     columns: &Columns<'_>,

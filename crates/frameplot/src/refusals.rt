@@ -20,7 +20,7 @@ impl Answers for Refused {
 
 impl Refused {
     // Says on standard error how many lines were refused, if any.
-    pub fn report(&self, rt: &impl Eprint) -> io::Result<()> {
+    pub(crate) fn report(&self, rt: &impl Eprint) -> io::Result<()> {
         let lines = self.lines;
         if lines == 0 {
             return Ok(());

@@ -31,7 +31,7 @@ pub struct Sheet {
 
 impl Sheet {
     // The sheet for an analysed model.
-    pub fn of(model: &Model<'_>) -> Sheet {
+    pub(crate) fn of(model: &Model<'_>) -> Sheet {
         let tallest = (1..=model.order())
             .map(|v| model.height(v).unwrap_or(0))
             .fold(0, |most, height| most.max(height));
@@ -43,21 +43,21 @@ impl Sheet {
     }
 
     // How far across a joint stands in the tree: by its place in the walk.
-    pub fn across(self, place: u32) -> u64
+    pub(crate) fn across(self, place: u32) -> u64
         ensures { result ≤ 2 ^ 40 }
     {
         3 * MARGIN + u64::from(self.order) * CELL + u64::from(place) * STEP
     }
 
     // How far down it stands: the tallest at the top, and those with none below them on one line.
-    pub fn down(self, height: u32) -> u64
+    pub(crate) fn down(self, height: u32) -> u64
         ensures { result ≤ 2 ^ 40 }
     {
         MARGIN + u64::from(self.tallest.saturating_sub(height)) * FLOOR
     }
 
     // Begins the picture, and says what is drawn.
-    pub fn begin<W: Write>(self, out: &mut W, total: u64) -> io::Result<()> {
+    pub(crate) fn begin<W: Write>(self, out: &mut W, total: u64) -> io::Result<()> {
         let (order, members) = (self.order, self.members);
         let width = self.across(order) + MARGIN;
         let height = (2 * MARGIN + u64::from(order) * CELL).max(self.down(0) + MARGIN);

@@ -45,7 +45,7 @@ fn draw_joint<W: Write>(out: &mut W, model: &Model<'_>, sheet: Sheet, v: u32) ->
 }
 
 // The tree of an analysed model: first the lines, then the joints over them.
-pub fn draw_tree<W: Write>(out: &mut W, model: &Model<'_>, sheet: Sheet) -> io::Result<()> {
+pub(crate) fn draw_tree<W: Write>(out: &mut W, model: &Model<'_>, sheet: Sheet) -> io::Result<()> {
     for v in 1..=model.order() {
         draw_step(out, model, sheet, v)?;
     }
