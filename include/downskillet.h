@@ -101,6 +101,8 @@ uint32_t downskillet_column_counts(const downskillet_vertex *vertices, size_t or
  * them: where each column starts in the rows, and its rows, without the diagonal. It analyses them anew, since the
  * tables lent could hold anything, and that takes little beside the structure.
  *
+ * entries    entry_count pairs: every record counts as one. After downskillet_analyse into a longer table pass
+ *            pair_count here, and not the length of the table.
  * starts     at least order + 1 numbers; afterwards starts[v - 1] is where column v starts, the first at 0, and
  *            starts[order] is where the rows end.
  * rows       at least total - order numbers, for the total that an analysis tells; afterwards

@@ -1,5 +1,6 @@
 ! The calls of include/downskillet.h, which says what each does, for Fortran. Pairs are the columns of an array of two
-! rows, and records the columns of arrays of plain integers.
+! rows, and records the columns of arrays of plain integers. The first number of an entry is, on little-endian machines,
+! its first vertex plus 65536 times its second.
 module downskillet
     use, intrinsic :: iso_c_binding
     implicit none

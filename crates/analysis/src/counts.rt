@@ -95,8 +95,8 @@ fn count_leaf<S: AncestorSets>(x: u32, u: u32, vertices: &mut [Vertex], sets: &m
     weigh(q, -1, vertices);
 }
 
-// Whether no lower neighbour of u met before is in the subtree of x. Any that is has a place from the first of x on, and
-// so has the last one met, as vertices are met by place.
+// Whether no lower neighbour of u met before is in the subtree of x. Any that is has a place from the first of x on,
+// and so has the last one met, as vertices are met by place.
 fn is_leaf(x: u32, u: u32, vertices: &[Vertex]) -> bool
     requires met { Has vertices.now x }
     requires row { Has vertices.now u }

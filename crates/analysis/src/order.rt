@@ -114,8 +114,8 @@ fn note_place(v: usize, vertices: &mut [Vertex])
     vertices[place - 1].at = v as u32;
 }
 
-// Levels, places and the walk by place, from the last vertex to the first: a parent before its children. A vertex is one
-// level below its parent and stands after all below it, siblings in the order of their numbers.
+// Levels, places and the walk by place, from the last vertex to the first: a parent before its children. A vertex is
+// one level below its parent and stands after all below it, siblings in the order of their numbers.
 fn walk_down(vertices: &mut [Vertex])
     requires forest { Forest vertices.old }
     requires sizes { Sized (length vertices.old) vertices.old }

@@ -14,8 +14,8 @@ use runs::{Done, NoSets, Run, With, run_both};
 use sets::{FollowedLinks, HalvedLinks, WrittenTops};
 use std::io;
 
-// Tables, sets and arrays are arrays of a fixed size: the program allocates nothing. Those of the first run are as small
-// as they can be, and its second sets are too small.
+// Tables, sets and arrays are arrays of a fixed size: the program allocates nothing. Those of the first run are as
+// small as they can be, and its second sets are too small.
 fn main(rt: HostRuntime) -> io::Result<()> {
     let mut vertices = ([Vertex::new(); 6], [Vertex::new(); 8]);
     let mut entries = ([Entry::new(); 5], [Entry::new(); 16]);

@@ -17,7 +17,8 @@ pub record TableOf (p : Pattern) (vs : List Vertex) : Type 0 where
 
 -- The first n vertices hold the answers, the first entries the pairs, and nothing but these and the first n links has
 -- changed.
-pub record Analysed (n : ℕ) (ps : List (ℕ × ℕ)) (vs ws : List Vertex) (es fs : List Entry) (ks ls : List ℕ) : Type 0 where
+pub record Analysed (n : ℕ) (ps : List (ℕ × ℕ)) (vs ws : List Vertex) (es fs : List Entry) (ks ls : List ℕ)
+    : Type 0 where
   pub table : TableOf (pattern_given n ps) (take n ws)
   pub pairs : pairs_of (take (length ps) fs) ≡ map turned ps
   pub other_vertices : drop n ws ≡ drop n vs

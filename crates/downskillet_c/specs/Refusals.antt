@@ -14,7 +14,8 @@ use Rattle.downskillet_c.specs.Pairs.{pattern_given}
 
 -- what no model could be made of, and links for fewer vertices than the order
 abbrev pub working_fault : ℕ → ℕ → ℕ → Option Refusal
-working_fault n vertices links = option_or (model.first_fault n vertices) (first_of ((nat_lt links n, SetsTooSmall) ∷ []))
+working_fault n vertices links =
+    option_or (model.first_fault n vertices) (first_of ((nat_lt links n, SetsTooSmall) ∷ []))
 
 -- some pair has a first vertex that is none of 1 to n, a second one, or two equal ones
 abbrev pub some_first_outside : ℕ → List (ℕ × ℕ) → Bool

@@ -7,10 +7,7 @@ ghost use Rattle.downskillet_c.specs.Refusals.{first_fault, pair_rules, room_rul
 
 use crate::pairs::Ends;
 use analysis::records::Vertex;
-use model::{Refusal, Side, judge};
-
-// The most entries of a pattern.
-const MOST_ENTRIES: usize = 262_144;
+use model::{MOST_ENTRIES, Refusal, Side, judge};
 
 // Whether the order is one, and the working storage of vertices is long enough for it.
 fn judge_working(order: u32, vertices: &[Vertex], links: &[u32]) -> Result<(), Refusal>

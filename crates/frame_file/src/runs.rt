@@ -1,7 +1,7 @@
 // The run of a file: what each line makes of the model, and its answer.
 // The model and the sets stay two parameters: each method of a struct that held them would have to say that it still
 // holds the same two.
-ghost use Rattle.std.specs.Prelude.{◌≡◌, ℕ, ◌<◌, length};
+ghost use Rattle.std.specs.Prelude.{◌≡◌, ℕ, true};
 ghost use Rattle.frame_text.specs.Records.{asks, makes, part_of, statement_of};
 ghost use Rattle.model.specs.Asked.{asked};
 ghost use Rattle.model.specs.Meaning.{meaning as means};
@@ -10,7 +10,7 @@ ghost use Rattle.model.specs.States.{made};
 ghost use Rattle.model.specs.Untouched.{Untouched, nowhere};
 ghost use Rattle.frame_file.specs.Carried.{Does, LineAnswered, Settles, lent_with, places};
 ghost use Rattle.frame_file.specs.Runs.{allowed, judged, line_sets, line_verdict, number_of, run_state};
-ghost use Rattle.frame_file.specs.Runs.{FileAnswered, file_sets, file_state, file_written};
+ghost use Rattle.frame_file.specs.Runs.{FileAnswered, file_sets, file_state, file_written, too_long};
 
 use crate::faults::RunFault;
 use crate::sinks::Answers;
@@ -163,7 +163,7 @@ pub fn run_file<S: AncestorSets, A: Answers>(
     ensures tables { Untouched
         (file_written (lent_with model.old (S.meaning sets.old).size) (means model.old) file.now)
         model.old.store model.new.store }
-    ensures keeps { FILE_MOST < length file.now → model.new ≡ model.old }
+    ensures keeps { too_long file.now ≡ true → model.new ≡ model.old }
 {
     if file.len() > FILE_MOST {
         answers.take(&Answer::from(RunFault::FileTooLong).block());

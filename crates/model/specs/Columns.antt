@@ -1,5 +1,6 @@
 -- A column read from arrays of starts and rows, whatever they hold.
-use Rattle.std.specs.Prelude.{◌≡◌, true, ℕ, ◌-◌, cond, ◌&&◌, List, length, Some, None, Option, nat_le, nat_lt, slice_index, slice_range}
+use Rattle.std.specs.Prelude.{◌≡◌, true, ℕ, ◌-◌, cond, ◌&&◌, List, length, Some, None, Option, nat_le, nat_lt}
+use Rattle.std.specs.Prelude.{slice_index, slice_range}
 use Rattle.pattern.specs.Patterns.{Pattern, within}
 use Rattle.pattern.specs.Structure as structure
 use Rattle.pattern.specs.Structure.{higher, over}

@@ -4,7 +4,8 @@ use Rattle.pattern.specs.Elimination.{parent}
 use Rattle.pattern.specs.Patterns.{Pattern, within}
 use Rattle.pattern.specs.Tops.{root}
 use Rattle.sets.specs.Meaning.{Sets}
-use Rattle.model.specs.States.{State, Given, Put, Drop, Analyse, Question, Total, Structure, if_accepted, first_refusal, pattern_in}
+use Rattle.model.specs.States.{State, Given, Put, Drop, Analyse, Question, Total, Structure, if_accepted}
+use Rattle.model.specs.States.{first_refusal, pattern_in}
 
 -- t stands for what s does
 pub record SameSets (s t : Sets) : Type 0 where

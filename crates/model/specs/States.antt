@@ -1,5 +1,6 @@
 -- What a model is to its user, which calls it refuses and what an accepted call makes of it: all of the rules.
-use Rattle.std.specs.Prelude.{ℕ, ◌+◌, ◌-◌, min, max, Bool, true, false, cond, not, ◌||◌, List, [], ◌∷◌, ◌++◌, length, Some, None, Ok, Err, Option, Result, ◌==◌, nat_le, nat_lt, slice_get}
+use Rattle.std.specs.Prelude.{ℕ, ◌+◌, ◌-◌, min, max, Bool, true, false, cond, not, ◌||◌, List, [], ◌∷◌, ◌++◌}
+use Rattle.std.specs.Prelude.{length, Some, None, Ok, Err, Option, Result, ◌==◌, nat_le, nat_lt, slice_get}
 use Rattle.pattern.specs.Patterns.{Pattern, within, same_entry, listed}
 use Rattle.pattern.specs.Elimination.{total}
 use Rattle.model.specs.declared.refusals.Side.{Side}

@@ -1,7 +1,8 @@
 -- What the two arrays lent for the structure hold after a call.
 use Rattle.std.specs.Prelude.{ℕ, List}
 use Rattle.pattern.specs.Structure.{starts, rows, over}
-use Rattle.model.specs.States.{State, Given, Put, Drop, Analyse, Question, Total, Structure, if_accepted, first_refusal, pattern_in}
+use Rattle.model.specs.States.{State, Given, Put, Drop, Analyse, Question, Total, Structure, if_accepted}
+use Rattle.model.specs.States.{first_refusal, pattern_in}
 
 abbrev pub starts_accepted : State → Given → List ℕ → List ℕ
 starts_accepted s (Structure long wide) before = over (starts (pattern_in s)) before

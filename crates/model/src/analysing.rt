@@ -44,8 +44,8 @@ impl Store<'_> {
 }
 
 impl Model<'_> {
-    // Analyses the model with ancestor sets lent for it; answers the sum of all column counts. Where it is analysed
-    // already, only the sets are to follow.
+    // Analyses the model with ancestor sets lent for it; answers the sum of all column counts. A model that is analysed
+    // already only sets the sets.
     pub fn analyse<S: AncestorSets>(&mut self, sets: &mut S) -> Result<u64, Refusal>
         ensures outcome { Outcome (Analyse (S.meaning sets.old).size)
             self.old self.new (total (pattern_held self.old)) result }

@@ -18,7 +18,9 @@ mod structure;
 #[cfg(test)]
 mod tests;
 
+pub use analysis::records::{Entry, Vertex};
 pub use columns::{Columns, columns_read_back};
-pub use making::{judge, make};
+pub use making::{LARGEST_ORDER, judge, make};
 pub use models::Model;
+pub use reading::MOST_ENTRIES;
 pub use refusals::{Refusal, Side};

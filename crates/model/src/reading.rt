@@ -6,7 +6,7 @@ ghost use Rattle.model.specs.States.{entry_at};
 use crate::models::Model;
 
 // The most entries that any model holds.
-const MOST_ENTRIES: usize = 262_144;
+pub const MOST_ENTRIES: usize = 262_144;
 
 impl Model<'_> {
     // The order, 0 of the empty model.
