@@ -38,7 +38,7 @@ extern "C" {
 #define DOWNSKILLET_ARRAY_TOO_SHORT 16     /* an array for answers or for the structure has too few places */
 
 /* Sizes of the records, for callers that lend plain memory; it is aligned to 8 bytes for vertices, 2 for entries. */
-#define DOWNSKILLET_VERTEX_BYTES 56
+#define DOWNSKILLET_VERTEX_BYTES 40
 #define DOWNSKILLET_ENTRY_BYTES 8
 
 /* A record for each vertex: working storage, and after an analysis its answers, which the calls below copy. What it

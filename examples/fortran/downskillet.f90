@@ -6,7 +6,7 @@ module downskillet
     implicit none
 
     ! 64-bit numbers a vertex record, and 32-bit numbers an entry record
-    integer, parameter :: vertex_numbers = 7, entry_numbers = 2
+    integer, parameter :: vertex_numbers = 5, entry_numbers = 2
 
     interface
         function downskillet_vertex_bytes() bind(c) result(bytes)

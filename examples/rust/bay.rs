@@ -6,7 +6,7 @@ const ORDER: usize = 6;
 #[repr(C)]
 #[derive(Clone, Copy, Default)]
 struct Vertex {
-    held: [u64; 7],
+    held: [u64; 5],
 }
 
 #[repr(C)]

@@ -104,7 +104,7 @@ module _ {vs ws : List Vertex} (forest : Forest vs) (long : length ws ≡ length
             ap (λ x. x.first.0) (g.vertices v p q)
             ∙ ap (λ j. j.0.0) (both v)
             ∙ ap (λ j. j.0) (places_over (λ x. (vertex vs x).first) (subtree n up v))
-            ∙ least_agrees 4294967295 n _ (place n up) (subtree n up v)
+            ∙ least_agrees 65535 n _ (place n up) (subtree n up v)
             (λ x o. let k = in_subtree n up v x o in begun.places x k.named k.fits)
             v (on_subtree n up forest.grows v h) (omega arith) b),
         holds_after reach_from (λ _ _. refl) _ _ only long (λ x. x.deepest.0) greatest_level_under

@@ -16,18 +16,18 @@ no_entry = record { low = 0; high = 0; lower = 0; upper = 0 }
 abbrev pub no_vertex : Vertex
 no_vertex =
     record {
-      parent = 0;
-      level = 0;
-      place = 0;
-      first = least_place 0;
-      deepest = greatest_level 0;
-      rows = 0;
       weight = weight (pos 0);
-      lower_end = 0;
-      upper_end = 0;
+      rows = 0;
       last = 0;
       met = 0;
+      level = 0;
+      first = least_place 0;
       at = 0;
+      parent = 0;
+      place = 0;
+      deepest = greatest_level 0;
+      lower_end = 0;
+      upper_end = 0;
     }
 
 -- the entry at position k

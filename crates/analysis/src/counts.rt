@@ -47,7 +47,7 @@ fn take_child(v: usize, vertices: &mut [Vertex])
 {
     let parent = vertices[v - 1].parent;
     if parent != 0 {
-        weigh(parent, -1, vertices);
+        weigh(parent as u32, -1, vertices);
     }
 }
 
@@ -68,13 +68,14 @@ fn lengthen_row(u: u32, x: u32, q: u32, vertices: &mut [Vertex])
     requires met { Has vertices.old x }
     requires top { Has vertices.old q }
     requires climbs { Climbs vertices.old u x q }
+    requires few { length vertices.old ≤ 16384 }
     ensures { vertices.new ≡ lengthened vertices.old u x q }
 {
     let by = vertices[x as usize - 1].level - vertices[q as usize - 1].level;
     let place = vertices[x as usize - 1].place;
     let row = &mut vertices[u as usize - 1];
     row.rows += by;
-    row.last = x;
+    row.last = x as u16;
     row.met = place;
 }
 
@@ -83,13 +84,14 @@ fn count_leaf<S: AncestorSets>(x: u32, u: u32, vertices: &mut [Vertex], sets: &m
     requires met { (1 ≤ x) × (x ≤ (S.meaning sets.old).used) }
     requires row { (1 ≤ u) × (u ≤ (S.meaning sets.old).used) }
     requires room { (S.meaning sets.old).used ≤ length vertices.old }
+    requires few { length vertices.old ≤ 16384 }
     requires climbs { Climbs vertices.old u x (meets_at (S.meaning sets.old) vertices.old u) }
     ensures counted { EntryCounted x u (meets_at (S.meaning sets.old) vertices.old u)
         vertices.old vertices.new }
     ensures only { Only counts_from vertices.old vertices.new }
     ensures tops { SameTops (S.meaning sets.old) (S.meaning sets.new) }
 {
-    let q = sets.find(vertices[u as usize - 1].last).unwrap_or(u);
+    let q = sets.find(vertices[u as usize - 1].last as u32).unwrap_or(u);
     lengthen_row(u, x, q, vertices);
     weigh(x, 1, vertices);
     weigh(q, -1, vertices);
@@ -110,6 +112,7 @@ fn count_entry<S: AncestorSets>(x: u32, u: u32, vertices: &mut [Vertex], sets: &
     requires met { (1 ≤ x) × (x ≤ (S.meaning sets.old).used) }
     requires row { (1 ≤ u) × (u ≤ (S.meaning sets.old).used) }
     requires room { (S.meaning sets.old).used ≤ length vertices.old }
+    requires few { length vertices.old ≤ 16384 }
     requires climbs { Climbs vertices.old u x (meets_at (S.meaning sets.old) vertices.old u) }
     ensures passed { EntryPassed x u (meets_at (S.meaning sets.old) vertices.old u) vertices.old vertices.new }
     ensures only { Only counts_from vertices.old vertices.new }
@@ -153,7 +156,7 @@ fn count_vertex<S: AncestorSets>(x: u32, vertices: &mut [Vertex], entries: &[Ent
     ensures size { (S.meaning sets.new).size ≡ (S.meaning sets.old).size }
 {
     count_neighbours(x, vertices, entries, sets);
-    let parent = vertices[x as usize - 1].parent;
+    let parent = vertices[x as usize - 1].parent as u32;
     if parent != 0 {
         sets.merge(x, parent).unwrap();
     }
@@ -170,7 +173,7 @@ fn count_walk<S: AncestorSets>(vertices: &mut [Vertex], entries: &[Entry], sets:
 {
     // By the place: the body writes the table that the walk is read from, so that no loop over the slice can.
     for i in 0..vertices.len() {
-        let x = vertices[i].at;
+        let x = vertices[i].at as u32;
         count_vertex(x, vertices, entries, sets);
     }
 }

@@ -13,7 +13,7 @@ impl<J> Child<J> for Vertex {
     ghost above = { λ x. x.parent };
 
     fn parent(&self) -> u32 {
-        self.parent
+        self.parent as u32
     }
 }
 

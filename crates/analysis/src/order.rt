@@ -25,7 +25,7 @@ fn sizes(vertices: &mut [Vertex])
 }
 
 // One more than the level of the parent, which has its level already; 0 if there is none.
-fn level_under(parent: u32, vertices: &[Vertex]) -> u32
+fn level_under(parent: u16, vertices: &[Vertex]) -> u16
     requires within { parent ≤ length vertices.now }
     requires small { 1 ≤ parent → (vertex vertices.now parent).level < 16384 }
     ensures { result ≡ level_under vertices.now parent }
@@ -39,16 +39,16 @@ fn level_under(parent: u32, vertices: &[Vertex]) -> u32
 
 impl Vertex {
     // The number of vertices in the subtree, once the sizes are gathered.
-    fn size(&self) -> u32
+    fn size(&self) -> u16
         requires counts { self.now.weight.0 ≡ pos (size_in self.now) }
         requires few { size_in self.now ≤ 16384 }
         ensures { result ≡ size_in self.now }
     {
-        self.weight.0 as u32
+        self.weight.0 as u16
     }
 
     // Gives the vertex its level, with which the greatest level in its subtree begins.
-    fn set_level(&mut self, level: u32)
+    fn set_level(&mut self, level: u16)
         ensures { self.new ≡ on_level self.old level }
     {
         self.level = level;
@@ -57,7 +57,7 @@ impl Vertex {
 
     // Gives the vertex its place, with which the least in its subtree begins, and the one before to the next of its
     // children.
-    fn set_place(&mut self, place: u32)
+    fn set_place(&mut self, place: u16)
         requires { 1 ≤ place }
         ensures { self.new ≡ at_its_place self.old place }
     {
@@ -80,7 +80,7 @@ fn take_level(v: usize, vertices: &mut [Vertex])
 
 // Gives v the last place that is free below its parent, with those before it to the subtree of v, and answers the last
 // that is then free for a root.
-fn take_place(v: usize, free: u32, vertices: &mut [Vertex]) -> u32
+fn take_place(v: usize, free: u16, vertices: &mut [Vertex]) -> u16
     requires has { Has vertices.old v }
     requires parent { parent_of vertices.old v ≤ length vertices.old }
     requires counts { (vertex vertices.old v).weight.0 ≡ pos (size_in (vertex vertices.old v)) }
@@ -111,7 +111,7 @@ fn note_place(v: usize, vertices: &mut [Vertex])
     ensures { vertices.new ≡ noted vertices.old v }
 {
     let place = vertices[v - 1].place as usize;
-    vertices[place - 1].at = v as u32;
+    vertices[place - 1].at = v as u16;
 }
 
 // Levels, places and the walk by place, from the last vertex to the first: a parent before its children. A vertex is
@@ -125,7 +125,7 @@ fn walk_down(vertices: &mut [Vertex])
     ensures begun { ReachBegun (length vertices.new) vertices.new }
     ensures only { Only walk_from vertices.old vertices.new }
 {
-    let mut free = vertices.len() as u32;
+    let mut free = vertices.len() as u16;
     // By number, as each step reads and writes other records too: to split the slice would be no plainer.
     for v in (1..=vertices.len()).rev() {
         take_level(v, vertices);

@@ -24,32 +24,35 @@ pub enum End {
     High,
 }
 
-// What an analysis finds of one vertex, with its working storage.
+// What an analysis finds of one vertex, with its working storage. Vertices, places, levels and row counts take 16 bits,
+// as in an entry, and what counting reads and writes stands together: a small record is a fast one.
 #[derive(Clone, Copy, Default)]
 #[repr(C)]
 pub struct Vertex {
-    // The parent in the elimination tree, 0 at a root, and the number of parent steps to the root.
-    pub parent: u32,
-    pub level: u32,
-    // The position in the postorder, from 1, and the least one in the subtree.
-    pub place: u32,
-    pub first: LeastPlace,
-    // The greatest level in the subtree.
-    pub deepest: GreatestLevel,
-    // The row count.
-    pub rows: u32,
     // At the end the column count; before that 1, then the size of the subtree, then this vertex's share of the column
     // counts.
     pub weight: Weight,
+    // The row count.
+    pub rows: u16,
+    // While places are given, the place that the next child takes; while counting, the last lower neighbour met, or 0.
+    pub last: u16,
+    // While counting, the place of that neighbour, or 0.
+    pub met: u16,
+    // The number of parent steps to the root.
+    pub level: u16,
+    // The least place in the subtree.
+    pub first: LeastPlace,
+    // The vertex whose place is this record's number: the postorder itself.
+    pub at: u16,
+    // The parent in the elimination tree, 0 at a root.
+    pub parent: u16,
+    // The position in the postorder, from 1.
+    pub place: u16,
+    // The greatest level in the subtree.
+    pub deepest: GreatestLevel,
     // Where the slots of its lower neighbours end, and those of its upper ones: both follow those of the vertex before.
     pub lower_end: u32,
     pub upper_end: u32,
-    // While places are given, the place that the next child takes; while counting, the last lower neighbour met, or 0.
-    pub last: u32,
-    // While counting, the place of that neighbour, or 0.
-    pub met: u32,
-    // The vertex whose place is this record's number: the postorder itself.
-    pub at: u32,
 }
 
 impl Entry {

@@ -16,7 +16,7 @@ pub fn settle<S: AncestorSets>(vertices: &[Vertex], sets: &mut S) -> Result<(), 
     sets.start(vertices.len() as u32)?;
     for (i, vertex) in vertices.iter().enumerate() {
         if vertex.parent != 0 {
-            sets.merge(i as u32 + 1, vertex.parent).unwrap();
+            sets.merge(i as u32 + 1, vertex.parent as u32).unwrap();
         }
     }
     Ok(())

@@ -58,7 +58,7 @@ fn begin_columns(vertices: &[Vertex], starts: &mut [u32], rows: &mut [u32])
 {
     let mut place = 0;
     for (i, vertex) in vertices.iter().enumerate() {
-        begin_column(i as u32 + 1, vertex.parent, place, starts, rows);
+        begin_column(i as u32 + 1, vertex.parent as u32, place, starts, rows);
         place += column_count(vertex) as u32 - 1;
     }
 }
@@ -77,7 +77,7 @@ fn climb(x: u32, u: u32, vertices: &[Vertex], starts: &mut [u32], rows: &mut [u3
     let mut v = x;
     while rows[starts[v as usize] as usize - 1] != u {
         append(u, v, starts, rows);
-        v = vertices[v as usize - 1].parent;
+        v = vertices[v as usize - 1].parent as u32;
     }
 }
 

@@ -5,7 +5,7 @@ use crate::settling::settle;
 use sets::{AncestorSets, HalvedLinks, NoRoom, WrittenTops};
 use std::process::Abort;
 
-fn check_vertex(rt: &impl Abort, vertex: Vertex, parent: u32, place: u32, rows: u32, columns: i64) {
+fn check_vertex(rt: &impl Abort, vertex: Vertex, parent: u16, place: u16, rows: u16, columns: i64) {
     assert_eq!(rt; vertex.parent, parent);
     assert_eq!(rt; vertex.place, place);
     assert_eq!(rt; vertex.rows, rows);

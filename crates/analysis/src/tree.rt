@@ -31,13 +31,14 @@ fn adopt<S: AncestorSets>(x: u32, u: u32, vertices: &mut [Vertex], sets: &mut S)
     requires within { u ≤ (S.meaning sets.old).used }
     requires own { (S.meaning sets.old).top u ≡ u }
     requires room { (S.meaning sets.old).used ≤ length vertices.old }
+    requires few { length vertices.old ≤ 16384 }
     ensures tops { Adopted (S.meaning sets.old) x u (S.meaning sets.new) }
     ensures parents { vertices.new
         ≡ adopted vertices.old ((S.meaning sets.old).top x) u }
 {
     let top = sets.find(x).unwrap();
     if top != u {
-        vertices[top as usize - 1].parent = u;
+        vertices[top as usize - 1].parent = u as u16;
         sets.merge(top, u).unwrap();
     }
 }
@@ -45,6 +46,7 @@ fn adopt<S: AncestorSets>(x: u32, u: u32, vertices: &mut [Vertex], sets: &mut S)
 // Puts the trees of u's lower neighbours below u, once that is done for the vertices below u.
 fn adopt_row<S: AncestorSets>(u: u32, vertices: &mut [Vertex], entries: &[Entry], sets: &mut S)
     requires has { Has vertices.old u }
+    requires few { length vertices.old ≤ 16384 }
     requires lists { Listed High vertices.old entries.now }
     requires used { (S.meaning sets.old).used ≡ length vertices.old }
     requires before { Grown (pattern_in vertices.old entries.now) (u - 1) vertices.old (S.meaning sets.old) }

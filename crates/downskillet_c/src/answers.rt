@@ -44,7 +44,7 @@ pub extern "C" fn downskillet_parents(vertices: &[Vertex], parents: &mut [u32]) 
     ensures answers { (p : Pattern) → TableOf p vertices.now →
         parents.new ≡ written (map (parent p) (upto p.order)) parents.old }
 {
-    write(vertices, parents, |vertex| vertex.parent)
+    write(vertices, parents, |vertex| vertex.parent as u32)
 }
 
 #[unsafe(no_mangle)]
@@ -54,7 +54,7 @@ pub extern "C" fn downskillet_places(vertices: &[Vertex], places: &mut [u32]) ->
     ensures answers { (p : Pattern) → TableOf p vertices.now →
         places.new ≡ written (map (place_of p) (upto p.order)) places.old }
 {
-    write(vertices, places, |vertex| vertex.place)
+    write(vertices, places, |vertex| vertex.place as u32)
 }
 
 #[unsafe(no_mangle)]
@@ -64,7 +64,7 @@ pub extern "C" fn downskillet_first_places(vertices: &[Vertex], places: &mut [u3
     ensures answers { (p : Pattern) → TableOf p vertices.now →
         places.new ≡ written (map (first_place_of p) (upto p.order)) places.old }
 {
-    write(vertices, places, |vertex| vertex.first.0)
+    write(vertices, places, |vertex| vertex.first.0 as u32)
 }
 
 #[unsafe(no_mangle)]
@@ -77,7 +77,7 @@ pub extern "C" fn downskillet_heights(vertices: &[Vertex], heights: &mut [u32]) 
     write(
         vertices,
         heights,
-        |vertex| vertex.deepest.0.saturating_sub(vertex.level),
+        |vertex| vertex.deepest.0.saturating_sub(vertex.level) as u32,
     )
 }
 
@@ -88,7 +88,7 @@ pub extern "C" fn downskillet_row_counts(vertices: &[Vertex], counts: &mut [u32]
     ensures answers { (p : Pattern) → TableOf p vertices.now →
         counts.new ≡ written (map (row_count p) (upto p.order)) counts.old }
 {
-    write(vertices, counts, |vertex| vertex.rows)
+    write(vertices, counts, |vertex| vertex.rows as u32)
 }
 
 // The column count that a record tells.

@@ -6,7 +6,7 @@ use std::mem::size_of;
 
 #[unsafe(no_mangle)]
 pub extern "C" fn downskillet_vertex_bytes() -> usize
-    ensures { result ≡ 56 }
+    ensures { result ≡ 40 }
 {
     size_of::<Vertex>()
 }

@@ -23,7 +23,7 @@ weights_over value (x ∷ xs) =
     ap (summed (value x)) (weights_over value xs) ∙ ap weight (int_wrap-add_right w64 (value x).0 _)
 
 pub places_over : (value : ℕ → LeastPlace) (xs : List ℕ) →
-    joined_over no_place lesser value xs ≡ least_place (least 4294967295 (λ x. (value x).0) xs)
+    joined_over no_place lesser value xs ≡ least_place (least 65535 (λ x. (value x).0) xs)
 unfolding joined_over least
 places_over value [] = refl
 places_over value (x ∷ xs) = ap (lesser (value x)) (places_over value xs)

@@ -19,7 +19,7 @@ abbrev pub least_place : ℕ → LeastPlace
 least_place n = record { 0 = n }
 
 abbrev pub no_place : LeastPlace
-no_place = least_place 4294967295
+no_place = least_place 65535
 
 abbrev pub lesser : LeastPlace → LeastPlace → LeastPlace
 lesser x y = least_place (min x.0 y.0)

@@ -5,7 +5,7 @@ ghost use Rattle.gather.specs.Kinds.{no_weight, summed, weight};
 ghost use Rattle.gather.specs.Kinds.{least_place, no_place, lesser};
 ghost use Rattle.gather.specs.Kinds.{greatest_level, no_level, greater};
 ghost use Rattle.std.proofs.Math.IntN.{+ℤ_assoc, +ℤ_idr};
-ghost use Rattle.std.specs.Int.{int_wrap, w32, w64};
+ghost use Rattle.std.specs.Int.{int_wrap, w16, w64};
 ghost use Rattle.std.proofs.lemmas.Int.{ints, int_wrap-add_left, int_wrap-add_right, int_wrap_fits};
 
 use crate::joining::Joining;
@@ -42,17 +42,17 @@ impl Joining for Weight {
     }
 }
 
-// A place, of which the least is sought. One type for this and the next would be no plainer: min or max, and what is
-// neutral to it, are all that they are.
+// A place, of which the least is sought: 16 bits hold the largest order, 16,384. One type for this and the next would
+// be no plainer: min or max, and what is neutral to it, are all that they are.
 #[derive(Clone, Copy, Default)]
 #[repr(C)]
-pub struct LeastPlace(pub u32);
+pub struct LeastPlace(pub u16);
 
-impl From<u32> for LeastPlace {
+impl From<u16> for LeastPlace {
     // A clause's number has no bound: that the place fits is said here, for the records that hold one.
-    ghost from_gives = { λ place given. (given ≡ least_place place) × Fits w32 place };
+    ghost from_gives = { λ place given. (given ≡ least_place place) × Fits w16 place };
 
-    fn from(place: u32) -> LeastPlace {
+    fn from(place: u16) -> LeastPlace {
         LeastPlace(place)
     }
 }
@@ -62,12 +62,12 @@ impl Joining for LeastPlace {
 
     ghost joined = { lesser };
 
-    ghost fits = { λ x. Fits w32 x.0 };
+    ghost fits = { λ x. Fits w16 x.0 };
 
     ghost laws = { Prim.search rules };
 
     fn neutral() -> LeastPlace {
-        LeastPlace(u32::MAX)
+        LeastPlace(u16::MAX)
     }
 
     fn join(self, other: LeastPlace) -> LeastPlace {
@@ -78,13 +78,13 @@ impl Joining for LeastPlace {
 // A level, of which the greatest is sought.
 #[derive(Clone, Copy, Default)]
 #[repr(C)]
-pub struct GreatestLevel(pub u32);
+pub struct GreatestLevel(pub u16);
 
-impl From<u32> for GreatestLevel {
+impl From<u16> for GreatestLevel {
     // As for a place, that the level fits is said here.
-    ghost from_gives = { λ level given. (given ≡ greatest_level level) × Fits w32 level };
+    ghost from_gives = { λ level given. (given ≡ greatest_level level) × Fits w16 level };
 
-    fn from(level: u32) -> GreatestLevel {
+    fn from(level: u16) -> GreatestLevel {
         GreatestLevel(level)
     }
 }
@@ -94,7 +94,7 @@ impl Joining for GreatestLevel {
 
     ghost joined = { greater };
 
-    ghost fits = { λ x. Fits w32 x.0 };
+    ghost fits = { λ x. Fits w16 x.0 };
 
     ghost laws = { Prim.search rules };
 

@@ -13,8 +13,8 @@ use crate::kinds::*;
 struct Vertex {
     parent: u32,
     weight: i64,
-    place: u32,
-    level: u32,
+    place: u16,
+    level: u16,
 }
 
 impl<J> Child<J> for Vertex {
@@ -96,7 +96,7 @@ impl Node<(LeastPlace, GreatestLevel)> for Vertex {
     }
 }
 
-fn made(parent: u32, weight: i64, place: u32, level: u32) -> Vertex
+fn made(parent: u32, weight: i64, place: u16, level: u16) -> Vertex
     ensures { result ≡ record { parent = parent; weight = weight; place = place; level = level } }
 {
     Vertex {
@@ -189,7 +189,7 @@ struct Twofold {
     heavier: u32,
     higher: u32,
     weight: i64,
-    level: u32,
+    level: u16,
 }
 
 impl Child<Weight> for Twofold {

@@ -17,11 +17,11 @@ impl Model<'_> {
         self.judge_question(v)?;
         let found = self.store.vertices[v as usize - 1];
         Ok(Numbers {
-            parent: found.parent,
-            place: found.place,
-            first: found.first.0,
-            height: found.deepest.0 - found.level,
-            rows: found.rows,
+            parent: found.parent as u32,
+            place: found.place as u32,
+            first: found.first.0 as u32,
+            height: (found.deepest.0 - found.level) as u32,
+            rows: found.rows as u32,
             columns: found.weight.0 as u32,
         })
     }

@@ -29,6 +29,7 @@ lengthen_row-requires g c =
       met = (c.requires.met.0, omega arith);
       top = top g at;
       climbs = at_equal (λ q vs. Climbs vs c.args.u c.args.x q) c.requires.climbs (sym (met g at));
+      few = c.requires.few;
     }
 
 pub weigh-requires-2 : goal.weigh-requires-2

@@ -52,12 +52,14 @@ count_entry-requires g c =
     let rises = u.rises in
     let fits = u.within in
     let used = (tops g at).used in
+    let few = c.requires.prepared.few in
     record {
       met = (c.requires.has.0, omega arith);
       row = (omega arith, omega arith);
       room = omega arith;
+      few = omega arith;
       climbs = climbs _ _ _ _ _ _ (tree g at) i.counting.tallied (tops g at)
-          (event_more _ _ _ _ _ u (meet g at) i.counting) c.requires.prepared.few;
+          (event_more _ _ _ _ _ u (meet g at) i.counting) few;
     }
 
 pub loop-slot-preserved : goal.loop-slot-preserved

@@ -41,6 +41,7 @@ adopt-requires g c =
       within = omega arith;
       own = row_top (pattern_in c.args.vertices.now c.args.entries.now) _ _ _ _ i.row.in_row c.requires.has.1;
       room = omega arith;
+      few = omega arith;
     }
 
 pub loop-slot-preserved : goal.loop-slot-preserved

@@ -13,8 +13,8 @@ bounds-self-v c =
 pub overflow_sub-result : goal.overflow_sub-result
 overflow_sub-result c = (asks c.args.self.now c.args.v _ c.judge_question.ensures c.in_ok-judge_question.was).rises
 
-pub overflow_cast-result : goal.overflow_cast-result
-overflow_cast-result c = (asks c.args.self.now c.args.v _ c.judge_question.ensures c.in_ok-judge_question.was).casts
+pub overflow_cast-result-6 : goal.overflow_cast-result-6
+overflow_cast-result-6 c = (asks c.args.self.now c.args.v _ c.judge_question.ensures c.in_ok-judge_question.was).casts
 
 pub returns : goal.returns
 returns c = (asks c.args.self.now c.args.v _ c.judge_question.ensures c.in_ok-judge_question.was).reads
