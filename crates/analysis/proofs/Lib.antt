@@ -1,6 +1,7 @@
 pub mod Changes
 pub mod CountingSort
-pub mod Slots
+pub mod SlotPairs
+mod Slots
 pub mod Passes
 pub mod Gathers
 pub mod Orders

@@ -84,12 +84,7 @@ module _ (p : Pattern) (vs rest : List Vertex) (long : p.order ≤ length vs) wh
     columns = λ v some fits. front_same (λ x. x.weight.0) v some fits ∙ answers.columns v some fits;
   }
 
--- Lists by the high ends stay while those by the low ends are made.
-pub lower_kept : (vs ws : List Vertex) (es fs : List Entry) → length vs ≡ length ws → pairs_of fs ≡ pairs_of es →
-    Only (slots_from Low) vs ws → OnlySlots Low es fs → Listed High vs es → Listed High ws fs
-lower_kept vs ws es fs tall pairs only slots =
-    listed_kept High vs ws es fs tall pairs (λ v. ap (slots_end High) (only v)) (λ k. ap (neighbour High) (slots k))
-
+-- What the phases change keeps where the slots of a vertex end.
 parents_keep : (which : End) (x y : Vertex) → slots_end which (tree_from x y) ≡ slots_end which x
 parents_keep Low x y = refl
 parents_keep High x y = refl

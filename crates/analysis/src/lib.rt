@@ -20,8 +20,8 @@ pub mod tree;
 
 use crate::counts::{count, total};
 use crate::order::order as set_in_order;
-use crate::pools::pool_by;
-use crate::records::{End, Entry, Vertex};
+use crate::pools::{pool_lower, pool_upper};
+use crate::records::{Entry, Vertex};
 use crate::tree::grow;
 use sets::{AncestorSets, NoRoom};
 
@@ -49,8 +49,8 @@ pub fn analyse<S: AncestorSets>(
 {
     sets.start(n)?;
     let vertices = &mut vertices[..n as usize];
-    pool_by(End::High, vertices, entries);
-    pool_by(End::Low, vertices, entries);
+    pool_lower(vertices, entries);
+    pool_upper(vertices, entries);
     grow(vertices, entries, sets);
     set_in_order(vertices);
     sets.start(n).unwrap();

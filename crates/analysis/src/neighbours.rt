@@ -6,7 +6,7 @@ ghost use Rattle.analysis.specs.Pools.{Listed, Neighbours, slots_begin};
 use crate::records::{End, Entry, Vertex};
 
 // Where the slots of v begin: where those of the vertex before end.
-fn slots_begin(which: End, v: u32, vertices: &[Vertex]) -> u32
+pub(crate) fn slots_begin(which: End, v: u32, vertices: &[Vertex]) -> u32
     requires { Has vertices.now v }
     ensures { result ≡ slots_begin which vertices.now v }
 {
