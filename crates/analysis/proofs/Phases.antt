@@ -9,14 +9,14 @@ use Rattle.analysis.specs.declared.records.Entry.{Entry}
 use Rattle.analysis.specs.declared.records.End.{End}
 use Rattle.analysis.specs.declared.records.End.TheVariants.{Low, High}
 use Rattle.analysis.specs.declared.records.Vertex.{Vertex}
-use Rattle.analysis.specs.Tables.{vertex, no_vertex, pairs_of, slots_end, slots_from, Only, OnlySlots, neighbour}
+use Rattle.analysis.specs.Tables.{vertex, no_vertex, pairs_of, slots_end, Only}
 use Rattle.analysis.specs.Tables.{tree_from, order_from, counts_from}
 use Rattle.analysis.specs.Pools.{Listed}
 use Rattle.analysis.specs.Growth.{pattern_of, pattern_in, Tree}
 use Rattle.analysis.specs.Order.{ParentsOf, OrderedAs}
 use Rattle.analysis.specs.Counts.{Ready, Counted}
 use Rattle.analysis.specs.Analysed.{Answered}
-use Rattle.analysis.proofs.Slots.{listed_kept, listed_only}
+use Rattle.analysis.proofs.Slots.{listed_only}
 
 -- entries with the same pairs make up the same pattern
 pub same_pattern : (n m : ℕ) (es fs : List Entry) → m ≡ n → pairs_of fs ≡ pairs_of es → pattern_of m fs ≡ pattern_of n es
