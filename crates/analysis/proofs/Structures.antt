@@ -22,7 +22,7 @@ use Rattle.analysis.specs.Counts.{column_of}
 use Rattle.analysis.specs.Structure.{Climbed, Climbing, Filled, Found, Rest, Room}
 use Rattle.analysis.specs.Growth.{pattern_of}
 use Rattle.analysis.specs.Pools.{Neighbours}
-use Rattle.analysis.specs.Tables.{no_vertex, vertex, entry, parent_of, pairs_of, Sound}
+use Rattle.analysis.specs.Tables.{no_vertex, entry, parent_of, pairs_of, Sound}
 use Rattle.analysis.proofs.Slots.{slot_sound, slot_shares, slot_for}
 
 pub placed : (starts : List ℕ) (v place : ℕ) → v < length starts →
