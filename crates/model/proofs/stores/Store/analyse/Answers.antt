@@ -1,4 +1,4 @@
-use Rattle.std.proofs.Common.{drop, refl, sym, subst, ap, ◌∙◌, arith}
+use Rattle.std.proofs.Common.{length-append, drop, refl, sym, subst, ap, ◌∙◌, arith}
 use Rattle.std.proofs.lemmas.List.{length-take-le, length-drop, take_at}
 use Rattle.analysis.specs.Tables.{Sound, pairs_of}
 use Rattle.model.specs.Tables.{distinct}
