@@ -1,8 +1,10 @@
 -- How a list of calls ends: what follows its last accepted call of a kind leaves members, analysis and arrays.
-use Rattle.std.proofs.Common.{◌≡◌, ℕ, Bool, true, false, ◌&&◌, ◌||◌, cond, List, [], ◌∷◌, map, is_none, is_some, Some, None, Option, ◌⊎◌, inl, inr, refl, sym, ap, ◌∙◌, subst}
+use Rattle.std.proofs.Common.{◌≡◌, ℕ, Bool, true, false, ◌&&◌, ◌||◌, cond, List, [], ◌∷◌, map}
+use Rattle.std.proofs.Common.{is_none, is_some, Some, None, Option, ◌⊎◌, inl, inr, refl, sym, ap, ◌∙◌, subst}
 use Rattle.std.proofs.lemmas.Bool.{and_parts, or_left, or_right}
 use Rattle.pattern.specs.Structure.{over, starts, rows}
-use Rattle.model.specs.States.{State, Given, Put, Drop, Analyse, Structure, accepted, first_refusal, if_accepted, pattern_in, step}
+use Rattle.model.specs.States.{State, Given, Put, Drop, Analyse, Structure}
+use Rattle.model.specs.States.{accepted, first_refusal, if_accepted, pattern_in, step}
 use Rattle.model.specs.Written.{starts_accepted, starts_after, rows_accepted, rows_after}
 use Rattle.model.specs.declared.refusals.Refusal.{Refusal}
 use Rattle.runs.specs.declared.calls.Call.{Call}

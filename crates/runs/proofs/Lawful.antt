@@ -23,7 +23,7 @@ use Rattle.runs.proofs.Questions.{asked_of}
 use Rattle.runs.proofs.Standing.{stands, writes}
 
 -- an analysed model answers by the paths of what it holds
-answers : (m : Model) → (meaning m).analysed ≡ true → Answers (meaning m) m
+pub answers : (m : Model) → (meaning m).analysed ≡ true → Answers (meaning m) m
 answers m analysed =
     record {
       below = below_is_led m analysed;

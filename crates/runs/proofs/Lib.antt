@@ -1,4 +1,5 @@
 mod Windows
+mod Turning
 mod Stretches
 mod Questions
 mod Below

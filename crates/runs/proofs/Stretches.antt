@@ -1,11 +1,15 @@
 -- A stretch of calls, one after another.
-use Rattle.std.proofs.Common.{◌≡◌, ℕ, zero, suc, List, [], ◌∷◌, map, length, Some, None, Option, Result, sym, refl, ap, ap₂, ◌∙◌, subst, arith, min, drop, ◌≤◌}
+use Rattle.std.proofs.Common.{◌≡◌, ℕ, zero, suc, List, [], ◌∷◌, map, length, Some, None, Option, Result}
+use Rattle.std.proofs.Common.{sym, refl, ap, ap₂, ◌∙◌, subst, arith, min, drop, ◌≤◌}
 use Rattle.std.proofs.lemmas.List.{length-append, length-drop}
 use Rattle.pattern.specs.Structure.{over, starts, rows}
 use Rattle.sets.specs.Meaning.{Sets}
 use Rattle.model.specs.Meaning.{meaning}
 use Rattle.model.specs.SetsAfter.{sets_after, settled}
-use Rattle.model.specs.States.{State, Analyse, Structure, answer, first_refusal, if_accepted, pattern_in, step}
+use Rattle.model.specs.States.{State, Given, Analyse, Structure, answer, first_refusal, if_accepted, pattern_in, step}
+use Rattle.model.specs.Untouched.{Untouched, nowhere}
+use Rattle.model.proofs.Rests.{untouched, untouched_by_both}
+use Rattle.model.specs.declared.stores.Store.{Store}
 use Rattle.model.specs.declared.models.Model.{Model}
 use Rattle.model.specs.declared.refusals.Refusal.{Refusal}
 use Rattle.runs.specs.declared.calls.Call.{Call}
@@ -13,6 +17,7 @@ use Rattle.runs.specs.declared.calls.Call.TheVariants as calls
 use Rattle.runs.specs.declared.calls.Reply.{Reply}
 use Rattle.runs.specs.Lending.{size_at, analysed_at}
 use Rattle.runs.specs.Runs.{Lent, given, account, reply, said, Replied, Took, after_call, after_calls, Turned}
+use Rattle.runs.specs.Runs.{Performed, written_by, written_by_calls}
 use Rattle.runs.proofs.Windows.{accepted_structure}
 
 -- what calls are given is the same by k as by l
@@ -42,7 +47,7 @@ sizes_left s (x ∷ xs) (suc i) zero = refl
 sizes_left s (x ∷ xs) (suc i) (suc k) = sizes_left s xs i k
 
 -- and a structure call the lengths
-kept : {X : Type 0} (o : Option Refusal) (x : X) → if_accepted o x x ≡ x
+pub kept : {X : Type 0} (o : Option Refusal) (x : X) → if_accepted o x x ≡ x
 kept None x = refl
 kept (Some refusal) x = refl
 
@@ -72,8 +77,21 @@ pub record Goes {A : Type 0} (took : Took A) (cs : List Call) (m : Model) (l : L
   pub state : account (meaning n) (map (given l) ds) ≡ account (meaning m) (map (given l) cs)
   pub replies : (end : A) → Replied took l (meaning n) ds q end → Replied took l (meaning m) cs p end
   pub lent : after_calls l (meaning n) ds k ≡ after_calls l (meaning m) cs l
-  pub table : length n.store.vertices.now ≡ length m.store.vertices.now
+  pub rest : (end : Store) → Untouched (written_by_calls (meaning n) (map (given l) ds)) n.store end →
+      Untouched (written_by_calls (meaning m) (map (given l) cs)) m.store end
   pub alike : Alike l k
+
+-- with no calls left all is performed
+pub performed : {A : Type 0} {took : Took A} {cs ds : List Call} {m n : Model} {l k : Lent} {p q : A} → ds ≡ [] →
+    Goes took cs m l p ds n k q → Performed took cs m n l k p q
+performed {A} {took} {cs} {ds} {m} {n} {l} {k} {p} {q} none goes =
+    let done : Goes took cs m l p [] n k q = subst (λ es. Goes took cs m l p es n k q) none goes in
+    record {
+      state = done.state;
+      replies = done.replies q refl;
+      lent = done.lent;
+      rest = done.rest n.store (untouched nowhere n.store);
+    }
 
 module _ {A : Type 0} (took : Took A) (cs : List Call) (m : Model) (l : Lent) (p : A) where
   pub goes_on : (c : Call) (ds es : List Call) (n o : Model) (k j : Lent) (q r : A) (answered : Result Reply Refusal)
@@ -102,7 +120,15 @@ module _ {A : Type 0} (took : Took A) (cs : List Call) (m : Model) (l : Lent) (p
         lent =
             ap₂ (λ t i. after_calls l t ds i) stepped leaves
             ∙ ap (λ ls. after_calls l (meaning n) ls k) (sym next) ∙ so_far.lent;
-        table = turn.table ∙ so_far.table;
+        rest = λ end later.
+            let Now : Given → Type 0 = λ g. Untouched (written_by (meaning n) g) n.store o.store in
+            let Later : State → Type 0
+            = λ t. Untouched (written_by_calls t (map (given l) ds)) o.store end in
+            let Left : List Call → Type 0
+            = λ ls. Untouched (written_by_calls (meaning n) (map (given l) ls)) n.store end in
+            so_far.rest end
+            (subst Left (sym next)
+            (untouched_by_both _ _ n.store o.store end (subst Now same turn.rest) (subst Later stepped later)));
         alike = record {
           sizes = λ i. after.sizes i ∙ so_far.alike.sizes i;
           long = after.long ∙ so_far.alike.long;

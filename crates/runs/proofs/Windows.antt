@@ -1,5 +1,6 @@
 -- A structure written into the first places of two arrays is written into the arrays.
-use Rattle.std.proofs.Common.{◌≡◌, ℕ, ◌+◌, ◌-◌, ◌≤◌, true, List, ◌++◌, length, take, drop, Some, None, Option, sym, ap, ap₂, ◌∙◌, refl, arith, min}
+use Rattle.std.proofs.Common.{◌≡◌, ℕ, ◌+◌, ◌-◌, ◌≤◌, true, List, ◌++◌, length, take, drop, Some, None, Option}
+use Rattle.std.proofs.Common.{sym, ap, ap₂, ◌∙◌, refl, arith, min}
 use Rattle.std.proofs.Common.{append_assoc}
 use Rattle.std.proofs.lemmas.Bool.{or_parts, ltb-false, not-false}
 use Rattle.std.proofs.lemmas.List.{take-append-drop, drop-append-le, length-take-le}

@@ -1,6 +1,9 @@
--- The law over runs: what a model answers, told by paths of members alone. Here s is the account, and its entries are
--- the members; m is the model after the run, and speaks by its answers.
-use Rattle.std.specs.Prelude.{◌≡◌, ℕ, ◌+◌, ◌-◌, ◌<◌, ◌≤◌, true, ◌⊎◌, ◌↔◌, List, length, drop, Some, Ok, Result, slice_index}
+-- The law over runs: what a model answers, told by paths of members. Here s is the account, and its entries are the
+-- members; m is the model after the run. `asked f m v` is what the model's call for f answers, `told m g` whether a
+-- call is accepted, and `starts_after` and `rows_after` what the structure call writes, each by the contract of that
+-- call in crates/model. The fill is that of elimination.
+use Rattle.std.specs.Prelude.{◌≡◌, ℕ, ◌+◌, ◌-◌, ◌<◌, ◌≤◌, true, ◌⊎◌, ◌↔◌}
+use Rattle.std.specs.Prelude.{List, length, drop, Some, Ok, Result, slice_index}
 use Rattle.std.specs.List.Sorted.{IsStrictlyIncreasing}
 use Rattle.pattern.specs.Lists.{occurs}
 use Rattle.pattern.specs.Patterns.{within, listed}

@@ -1,11 +1,14 @@
 -- A run: what its calls are given, the account that is kept of it, and what they are answered and leave behind.
-use Rattle.std.specs.Prelude.{◌≡◌, ℕ, min, Bool, cond, ◌&&◌, List, [], ◌∷◌, map, length, Some, None, Option, Result, is_none, is_some}
+use Rattle.std.specs.Prelude.{◌≡◌, ℕ, min, Bool, true, cond, ◌&&◌, List, [], ◌∷◌, map, length}
+use Rattle.std.specs.Prelude.{Some, None, Option, Result, is_err, is_none, is_some}
 use Rattle.pattern.specs.Elimination.{parent, row_count, col_count, total}
 use Rattle.pattern.specs.Analysis.{place_of, first_place_of, height_of}
 use Rattle.pattern.specs.Patterns.{Pattern}
 use Rattle.sets.specs.Meaning.{Sets}
 use Rattle.model.specs.Meaning.{meaning}
-use Rattle.model.specs.States.{State, Given, Put, Drop, Analyse, Question, Total, Structure, answer, first_refusal, pattern_in, step}
+use Rattle.model.specs.States.{State, Given, Put, Drop, Analyse, Question, Total, Structure}
+use Rattle.model.specs.States.{answer, first_refusal, if_accepted, pattern_in, step}
+use Rattle.model.specs.Untouched.{Places, Untouched, either, nowhere, writes}
 use Rattle.model.specs.Written.{rows_after, starts_after}
 use Rattle.model.specs.declared.models.Model.{Model}
 use Rattle.model.specs.declared.refusals.Refusal.{Refusal}
@@ -39,6 +42,14 @@ given l (calls.Structure starts rows) = Structure (min starts (length l.starts))
 abbrev pub account : State → List Given → State
 account s [] = s
 account s (g ∷ gs) = account (step s g) gs
+
+-- where a call may write in the two tables of the model, a refused one nowhere, and where calls may, one after another
+abbrev pub written_by : State → Given → Places
+written_by s g = if_accepted (first_refusal s g) (writes s g) nowhere
+
+abbrev pub written_by_calls : State → List Given → Places
+written_by_calls s [] = nowhere
+written_by_calls s (g ∷ gs) = either (written_by s g) (written_by_calls (step s g) gs)
 
 -- the last of the accepted calls that are of a kind, if there is one
 abbrev pub last_accepted : (Given → Bool) → State → List Given → Option Given
@@ -93,17 +104,20 @@ abbrev pub after_calls : Lent → State → List Call → Lent → Lent
 after_calls l s [] k = k
 after_calls l s (c ∷ cs) k = after_calls l (step s (given l c)) cs (after_call s (given l c) c k)
 
--- One call took the model from m to n, what is lent from l to k, and is replied r.
+-- One call took the model from m to n, what is lent from l to k, and is replied r. A refused call leaves the whole
+-- model, and any call the places of its tables that it does not write.
 pub record Turned (c : Call) (m n : Model) (l k : Lent) (r : Result Reply Refusal) : Type 0 where
   pub state : meaning n ≡ step (meaning m) (given l c)
   pub reply : r ≡ reply l (meaning m) c
   pub lent : k ≡ after_call (meaning m) (given l c) c l
-  pub table : length n.store.vertices.now ≡ length m.store.vertices.now
+  pub keeps : is_err r ≡ true → n ≡ m
+  pub rest : Untouched (written_by (meaning m) (given l c)) m.store n.store
 
--- A stretch of calls took the model from m to n, what is lent from l to k, and the sink from p to q.
+-- A stretch of calls took the model from m to n, what is lent from l to k, and the sink from p to q. The places of the
+-- tables that no accepted call writes are as they were.
 pub record Performed {A : Type 0} (took : Took A) (cs : List Call) (m n : Model) (l k : Lent) (p q : A)
     : Type 0 where
   pub state : meaning n ≡ account (meaning m) (map (given l) cs)
   pub replies : Replied took l (meaning m) cs p q
   pub lent : k ≡ after_calls l (meaning m) cs l
-  pub table : length n.store.vertices.now ≡ length m.store.vertices.now
+  pub rest : Untouched (written_by_calls (meaning m) (map (given l) cs)) m.store n.store

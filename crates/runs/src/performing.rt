@@ -1,9 +1,10 @@
 // A list of calls, carried out one after the other on a model.
-ghost use Rattle.std.specs.Prelude.{◌≡◌, length, min};
+ghost use Rattle.std.specs.Prelude.{◌≡◌, length, min, true};
 ghost use Rattle.model.specs.Asked.{asked, told};
 ghost use Rattle.model.specs.Meaning.{meaning};
 ghost use Rattle.model.specs.States.{Structure};
 ghost use Rattle.model.specs.Written.{rows_after, starts_after};
+ghost use Rattle.runs.specs.Laws.{Answers};
 ghost use Rattle.runs.specs.Runs.{lending, number_of, Performed, Turned};
 
 use crate::calls::{Call, Question, Reply};
@@ -80,8 +81,10 @@ pub fn perform<S: LentSets, A: Replies>(
     rows: &mut [u32],
     replies: &mut A,
 )
-    ensures { Performed A.took calls.now model.old model.new (lending (S.meanings sets.old) starts.old rows.old)
+    ensures performed { Performed A.took calls.now model.old model.new
+        (lending (S.meanings sets.old) starts.old rows.old)
         (lending (S.meanings sets.new) starts.new rows.new) replies.old replies.new }
+    ensures law { (meaning model.new).analysed ≡ true → Answers (meaning model.new) model.new }
 {
     for call in calls {
         let reply = carry_out(*call, model, sets, starts, rows);

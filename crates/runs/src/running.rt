@@ -59,7 +59,7 @@ fn make_and_perform<'a, S: LentSets, A: Replies>(given: Run<'a, S, A>) -> Done<'
 }
 
 // Two runs, one after the other. The law over runs stands here: what the model of each answers after it, told by paths
-// of its members alone, and how the answers of the two compare where the second has every member of the first.
+// of its members, and how the answers of the two compare where the second has every member of the first.
 pub fn run_both<'a, 'b, S: LentSets, A: Replies, T: LentSets, B: Replies>(
     first: Run<'a, S, A>,
     second: Run<'b, T, B>,

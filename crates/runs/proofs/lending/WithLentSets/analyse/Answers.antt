@@ -1,4 +1,4 @@
-use Rattle.std.proofs.Common.{ℕ, ◌-◌, subst, sym}
+use Rattle.std.proofs.Common.{ℕ, subst, sym}
 use Rattle.pattern.specs.Elimination.{total}
 use Rattle.model.specs.Asked.{pattern_held}
 use Rattle.model.specs.Meaning.{Outcome}
@@ -11,4 +11,6 @@ returns-clause-outcome g c =
     let m = c.args.model.now in
     let after = c.analyse-2.new.model in
     let P : ℕ → Type 0 = λ size. Outcome (Analyse size) m after (total (pattern_held m)) c.analyse-2.result in
-    subst P (sym (size_next (g.S.AncestorSets.meaning c.args.self.now.sets) (g.R.LentSets.meanings c.args.self.now.more) c.args.index c.if-index-eq0.false)) c.analyse-2.ensures.outcome
+    let first = g.S.AncestorSets.meaning c.args.self.now.sets in
+    let later = g.R.LentSets.meanings c.args.self.now.more in
+    subst P (sym (size_next first later c.args.index c.if-index-eq0.false)) c.analyse-2.ensures.outcome
