@@ -27,8 +27,11 @@ invariant_of-self-2 g c =
     record {
       small = s.small;
       placed = omega (arith, s.placed);
-      room = omega (arith, length-append c.analyse.new.entries (drop s.held s.entries.now),
-          length-drop s.held s.entries.now);
+      room = omega (
+        arith,
+        length-append c.analyse.new.entries (drop s.held s.entries.now),
+        length-drop s.held s.entries.now,
+      );
       sound = subst (Sound s.order) (sym same) s.sound;
       apart = ap distinct same ∙ s.apart;
     }
