@@ -1,5 +1,5 @@
 -- The tree grown row by row: the laws of crowns, which vertices a row gives their parent, and the tables row by row.
-use Rattle.std.proofs.Common.{◌≡◌, ℕ, zero, suc, ◌+◌, ◌<◌, ◌≤◌, true, false, cond, not, ◌&&◌, eqb, ◌⊎◌, sym, refl, ap, ◌∙◌, subst, inl, inr, arith}
+use Rattle.std.proofs.Common.{◌≡◌, ℕ, zero, suc, ◌+◌, ◌<◌, ◌≤◌, true, false, cond, not, ◌&&◌, eqb, ◌⊎◌, ◌↔◌, sym, refl, ap, ◌∙◌, subst, inl, inr, arith}
 use Rattle.std.proofs.lemmas.Bool.{cases_eq, cases_lt, cond-true, cond-false, eq-eqb, ne_eqb}
 use Rattle.std.proofs.lemmas.Bool.Decides.{nat_tests}
 use Rattle.pattern.specs.Patterns.{Pattern, shares}
@@ -107,6 +107,14 @@ module _ (n : ℕ) (up : ℕ → ℕ) (grows : Grows n up) where
         | inr under ↦ sym (crown_meets u x is it under)
       ]
 
+  -- a crown is a vertex, and what it is the crown of lies under it
+  pub crown_vertex : (u x : ℕ) → 1 ≤ x → x ≤ n → (1 ≤ crown up u x) × (crown up u x ≤ n)
+  crown_vertex u x some fits =
+      let v = climb_end (crown_is u x (record { named = some; fits = fits })).lies in (v.named, v.fits)
+
+  pub crown_under : (u x : ℕ) → 1 ≤ x → x ≤ n → under n up x (crown up u x) ≡ true
+  crown_under u x some fits = under_of n up grows (crown_is u x (record { named = some; fits = fits })).lies
+
   -- what has no parent up to u is the crown of all in its subtree
   pub crown_of_under : (u x r : ℕ) → under n up x r ≡ true → r ≤ u → (up r ≡ 0) ⊎ (u < up r) → crown up u x ≡ r
   crown_of_under u x r e within ends =
@@ -118,6 +126,26 @@ module _ (n : ℕ) (up : ℕ → ℕ) (grows : Grows n up) where
         ends = ends;
         own = λ h. omega (arith, h, within, climb_le grows climb);
       })
+
+  pub crown_twice : (u x : ℕ) → 1 ≤ x → x ≤ n → crown up u (crown up u x) ≡ crown up u x
+  crown_twice u x some fits =
+      let is = crown_is u x (record { named = some; fits = fits }) in
+      crown_only u (crown up u x) (crown up u x)
+      (record { lies = here (climb_end is.lies); low = λ e. e; ends = is.ends; own = λ _. refl })
+
+  -- of a vertex r that is its own crown at u: the vertices with that crown are just those of its subtree
+  pub crown_subtree : (u x r : ℕ) → 1 ≤ x → x ≤ n → r ≤ u → crown up u r ≡ r →
+      (under n up x r ≡ true) ↔ (crown up u x ≡ r)
+  crown_subtree u x r some fits within own = (to, from)
+    where
+      from : crown up u x ≡ r → under n up x r ≡ true
+      from e = subst (λ c. under n up x c ≡ true) e (crown_under u x some fits)
+
+      to : under n up x r ≡ true → crown up u x ≡ r
+      to e =
+          let vr = climb_end (climb_of n up x r e) in
+          crown_of_under u x r e within
+          (subst (λ c. (up c ≡ 0) ⊎ (u < up c)) own (crown_is u r vr).ends)
 
   -- at last the crown is the root
   pub crown_root : (x : ℕ) → Vertex n x → up (crown up n x) ≡ 0
@@ -155,6 +183,13 @@ module _ (p : Pattern) where
         t.entry,
         crown_of_under p.order (parent p) (parents_grow p) u t.at r t.lies (omega arith) (inr (omega arith)),
       )
+
+  pub parent_by_crowns : (u w r : ℕ) → w ≡ u + 1 →
+      (parent p r ≡ w) ↔ ((x : ℕ) × (x < w) × (shares p x w ≡ true) × (crown_of p u x ≡ r))
+  parent_by_crowns u w r next = (
+    adopted_crown u w r next,
+    λ t. ap (parent p) (sym t.3) ∙ crown_adopted u w t.0 next t.1 t.2,
+  )
 
 cut_low : (u v : ℕ) → cut u v ≤ u
 unfolding cut
@@ -292,6 +327,25 @@ module _ (p : Pattern) where
       let vw : Vertex p.order w = record { named = some; fits = fits } in
       let own = (of_pattern p u w vw).own (omega (arith, in_row.next)) in
       let top = in_row.tops w some fits in grind (arith, nat_tests)
+
+  pub row_tops : (u w : ℕ) (P T : ℕ → ℕ) → InRow p u w P T → w ≤ p.order → (x : ℕ) → 1 ≤ x → x < w →
+      (1 ≤ T x) × (T x ≤ w) × (T (T x) ≡ T x)
+  row_tops u w P T in_row fits x some less =
+      let vx : Vertex p.order x = record { named = some; fits = omega (arith, less, fits) } in
+      elim (cases_eq (P (crown_of p u x)) w) [
+        | inl has ↦
+            let top : T x ≡ w = in_row.tops x some vx.fits ∙ cond-true _ _ _ (eq-eqb _ _ has) in
+            (omega (arith, top, in_row.next), omega (arith, top), ap T top ∙ row_top u w P T in_row fits ∙ sym top)
+        | inr none ↦
+            let c = crown_fits u x some vx.fits in
+            let low = (of_pattern p u x vx).low (omega (arith, less, in_row.next)) in
+            let twice = crown_twice p.order (parent p) (parents_grow p) u x some vx.fits in
+            let top : T x ≡ crown_of p u x = in_row.tops x some vx.fits ∙ cond-false _ _ _ (ne_eqb _ _ none) in
+            let own : T (crown_of p u x) ≡ crown_of p u x =
+            in_row.tops (crown_of p u x) c.0 c.1
+            ∙ ap (λ d. cond (eqb (P d) w) w d) twice ∙ cond-false _ _ _ (ne_eqb _ _ none) in
+            (omega (arith, top, c.0), omega (arith, top, low, in_row.next), ap T top ∙ own ∙ sym top)
+      ]
 
   -- all rows are done: the parents are the tree's, and the top of each vertex is its root
   pub rows_end : (P T : ℕ → ℕ) → AfterRows p p.order P T → (v : ℕ) → 1 ≤ v → v ≤ p.order → P v ≡ parent p v

@@ -112,6 +112,26 @@ module _ (p : Pattern) where
         }
       ]
 
+  pub joined_sym : (k a b : ℕ) → joined p k a b ≡ true → joined p k b a ≡ true
+  joined_sym zero a b e = sym (joined_start b a) ∙ shares_sym a b (joined_start a b ∙ e)
+  joined_sym (suc k) a b e =
+      elim (joined_parts k a b e) [
+        | inl before ↦ joined_before k b a (joined_sym k a b before)
+        | inr j ↦
+            joined_now k b a
+            (record {
+              a-above = j.b-above;
+              b-above = j.a-above;
+              apart = λ s. j.apart (sym s);
+              at_a = j.at_b;
+              at_b = j.at_a;
+            })
+      ]
+
   pub fill_ends : (a b : ℕ) → fill p a b ≡ true → Ends p.order a b
   unfolding fill
   fill_ends a b e = joined_ends p.order a b e
+
+  pub fill_sym : (a b : ℕ) → fill p a b ≡ true → fill p b a ≡ true
+  unfolding fill
+  fill_sym a b e = joined_sym p.order a b e

@@ -198,6 +198,19 @@ module _ (p : Pattern) where
   row_fits u low high es q =
       omega (arith, row_reached u (record { named = low; fits = high }) es q, bits_fit (λ v. reaches u v es) p.order)
 
+  -- and only grows
+  pub row_grows : (u : ℕ) (newer older : List (ℕ × ℕ)) → row_so_far p u older ≤ row_so_far p u (newer ++ older)
+  row_grows u [] older = omega arith
+  row_grows u ((x, w) ∷ newer) older =
+      let all = newer ++ older in
+      let i = row_grows u newer older in
+      elim (cases_eq w u) [
+        | inl e ↦
+            let a = row_own p x u all in
+            subst (λ w. row_so_far p u older ≤ row_so_far p u ((x, w) ∷ all)) (sym e) (omega arith)
+        | inr d ↦ let a = row_other p x w all u d in omega arith
+      ]
+
   -- the events of u, from the oldest to the newest, serve row u
   met_placed : (u : ℕ) (es : List (ℕ × ℕ)) → Passing p es → unfalling (place_of p) (met u es) ≡ true
   unfolding met unfalling
@@ -254,4 +267,12 @@ module _ (p : Pattern) where
       let c = sum_plus (λ v. bit (in_row_test p v u)) (λ v. bit (in_subtree p (parent p u) v)) (upto n) in
       let d = row_tests p u in
       let e = parent_counts n (parent p) (parents_grow p) u h in
+      omega arith
+
+  -- every row so far is at most the whole row
+  pub row_part : (newer older : List (ℕ × ℕ)) → Passed p (newer ++ older) → (u : ℕ) → 1 ≤ u → u ≤ p.order →
+      row_so_far p u older ≤ row_count p u
+  row_part newer older q u low high =
+      let a = row_grows u newer older in
+      let b = row_passed (newer ++ older) q u low high in
       omega arith

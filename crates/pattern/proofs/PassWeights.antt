@@ -1,20 +1,21 @@
--- The weights of the pass by place: at the end they are the weights of the pattern.
-use Rattle.std.proofs.Common.{◌≡◌, ℕ, ◌+◌, ◌≤◌, true, cond, eqb, List, [], ◌∷◌, ℤ, pos, ◌-ℤ◌, sym, refl, ap, ◌∙◌, arith}
+-- The weights of the pass by place: how far they can go, and that at the end they are the weights of the pattern.
+use Rattle.std.proofs.Common.{◌≡◌, ℕ, ◌+◌, ◌≤◌, true, cond, eqb, List, [], ◌∷◌, length, ℤ, pos, negsuc, ◌-ℤ◌, neg_ℤ, ◌≤ℤ◌, sym, refl, ap, ◌∙◌, arith}
+use lib.Signed.{mag}
 use Rattle.std.proofs.lemmas.Bool.{or_right}
 use Rattle.std.proofs.lemmas.Bool.Decides.{nat_tests}
 use Rattle.std.proofs.lemmas.Int.{ints}
 use Rattle.pattern.specs.Lists.{upto, occurs, sum}
 use Rattle.pattern.specs.Patterns.{Pattern}
 use Rattle.pattern.specs.Elimination.{col_count, parent}
-use Rattle.pattern.specs.Forest.{subtree}
+use Rattle.pattern.specs.Forest.{subtree, children}
 use Rattle.pattern.specs.Fill.{in_subtree, weight}
 use Rattle.pattern.specs.Walks.{size}
 use Rattle.pattern.specs.Counts.{lower_neighbours, sum_ℤ}
 use Rattle.pattern.specs.Passes.{bend_at, one_if, weight_so_far, Passing, Passed}
 use Rattle.pattern.proofs.Tests.{Vertex}
 use Rattle.pattern.proofs.Lists.{in_upto, in_keep, occurs_here}
-use Rattle.pattern.proofs.Sums.{sum_plus}
-use Rattle.pattern.proofs.Tallies.{bit, sum_same, sum_zero, sum_at, length_is_sum}
+use Rattle.pattern.proofs.Sums.{sum_plus, count_is_sum}
+use Rattle.pattern.proofs.Tallies.{bit, bit_bound, bits_fit, sum_same, sum_zero, sum_at, length_is_sum}
 use Rattle.pattern.proofs.Tree.{parents_grow}
 use Rattle.pattern.proofs.Forest.{size_counts}
 use Rattle.pattern.proofs.Counting.{
@@ -41,6 +42,10 @@ sum_ℤ_same f g [] same = refl
 sum_ℤ_same f g (x ∷ xs) same =
     omega (arith, ints, same x (occurs_here x xs), sum_ℤ_same f g xs (λ y o. same y (or_right _ _ o)))
 
+mag_bound : (z : ℤ) (k : ℕ) → neg_ℤ (pos k) ≤ℤ z → z ≤ℤ pos k → mag z ≤ k
+mag_bound (pos n) k low high = omega (arith, ints)
+mag_bound (negsuc n) k low high = omega (arith, ints)
+
 -- how often v was a stop: of its own row, and at each event at v
 unfoldable stops_at : ℕ → List (ℕ × ℕ) → ℕ
 stops_at v [] = 1
@@ -58,6 +63,41 @@ module _ (p : Pattern) where
   weight_counts v [] = let a = weight_none p v in omega (arith, ints)
   weight_counts v ((x, u) ∷ es) =
       omega (arith, ints, weight_counts v es, weight_more p x u es v, one_is v x, one_is v (bend_at p x u es))
+
+  stops_fit : (v : ℕ) (es : List (ℕ × ℕ)) → stops_at v es ≤ 1 + length es
+  unfolding stops_at
+  stops_fit v [] = omega arith
+  stops_fit v ((x, u) ∷ es) = omega (arith, stops_fit v es, bit_bound (eqb x v))
+
+  bends_fit : (v : ℕ) (es : List (ℕ × ℕ)) → bends_at v es ≤ length es
+  unfolding bends_at
+  bends_fit v [] = omega arith
+  bends_fit v ((x, u) ∷ es) = omega (arith, bends_fit v es, bit_bound (eqb (bend_at p x u es) v))
+
+  born_fit : (v : ℕ) → born p v ≤ p.order
+  unfolding born children
+  born_fit v =
+      omega (arith, count_is_sum (λ c. eqb (parent p c) v) (upto p.order), bits_fit (λ c. eqb (parent p c) v) p.order)
+
+  -- no weight goes further than the vertices and the events let it
+  pub weight_low : (v : ℕ) (es : List (ℕ × ℕ)) → neg_ℤ (pos (p.order + length es)) ≤ℤ weight_so_far p v es
+  weight_low v es =
+      let a = weight_counts v es in
+      let b = bends_fit v es in
+      let c = born_fit v in
+      omega (arith, ints)
+
+  pub weight_high : (v : ℕ) (es : List (ℕ × ℕ)) → weight_so_far p v es ≤ℤ pos (1 + length es)
+  weight_high v es =
+      let a = weight_counts v es in
+      let b = stops_fit v es in
+      omega (arith, ints)
+
+  pub weight_mag : (v : ℕ) (es : List (ℕ × ℕ)) → mag (weight_so_far p v es) ≤ 1 + p.order + length es
+  weight_mag v es =
+      let a = weight_low v es in
+      let b = weight_high v es in
+      mag_bound (weight_so_far p v es) (1 + p.order + length es) (omega (arith, ints)) (omega (arith, ints))
 
   -- the stops under v are the bends under v and the rows that reach v
   stops_and_bends : (v : ℕ) (es : List (ℕ × ℕ)) → Passing p es →

@@ -1,5 +1,5 @@
 -- The pass by place: what one event more changes, what was met last, and where the path from a new one joins its row.
-use Rattle.std.proofs.Common.{◌≡◌, ℕ, suc, ◌+◌, ◌-◌, ◌<◌, ◌≤◌, true, false, cond, ◌&&◌, ◌||◌, eqb, ◌⊎◌, List, [], ◌∷◌, length, pos, ◌+ℤ◌, ◌-ℤ◌, sym, refl, ap, ◌∙◌, subst, inl, inr, arith}
+use Rattle.std.proofs.Common.{◌≡◌, ℕ, suc, ◌+◌, ◌-◌, ◌<◌, ◌≤◌, true, false, cond, ◌&&◌, ◌||◌, eqb, ◌⊎◌, List, [], ◌∷◌, ◌++◌, length, pos, ◌+ℤ◌, ◌-ℤ◌, sym, refl, ap, ◌∙◌, subst, inl, inr, arith}
 use Rattle.std.proofs.lemmas.Bool.{cases_eq, cases_lt, both_ways, or_cases, or_left, or_right, or_from, and_parts, and_from, and_right, cond-true, cond-false, eqb-true, eq-eqb, ne_eqb, leb-true, le-leb}
 use Rattle.std.proofs.lemmas.Bool.Decides.{nat_tests}
 use Rattle.pattern.specs.Patterns.{Pattern, shares}
@@ -84,6 +84,11 @@ module _ (p : Pattern) where
   unfolding last_place
   place_met u es some = grind (arith, nat_tests)
 
+  pub bend_is : (x u : ℕ) (es : List (ℕ × ℕ)) →
+      bend_at p x u es ≡ cond (eqb (last_met u es) 0) u (meet_of p (last_met u es) x)
+  unfolding bend_at
+  bend_is x u es = refl
+
   -- the first of row u joins it at u
   pub bend_first : (x u : ℕ) (es : List (ℕ × ℕ)) → last_met u es ≡ 0 → bend_at p x u es ≡ u
   unfolding bend_at
@@ -167,6 +172,10 @@ module _ (p : Pattern) where
     lower = λ y w h. q.lower y w (happened_before x u es y w h);
     placed = placed_rest (x, u) es q.placed;
   }
+
+  pub passing_part : (newer older : List (ℕ × ℕ)) → Passing p (newer ++ older) → Passing p older
+  passing_part [] older q = q
+  passing_part ((x, u) ∷ newer) older q = passing_part newer older (passing_older x u (newer ++ older) q)
 
   -- none met before stands at a later place
   pub older_placed : (x u : ℕ) (es : List (ℕ × ℕ)) → Passing p ((x, u) ∷ es) →
@@ -303,6 +312,13 @@ module _ (p : Pattern) where
         top_meets p.order (parent p) (parents_grow p) x new.from u new.lies
             (last_met u es) last.lower.from.fits last.lower.lies le ∙ sym (bend_later x u es l),
       )
+
+  -- the same where x stands at place t + 1
+  pub bend_top_at : (x u : ℕ) (es : List (ℕ × ℕ)) → Passing p ((x, u) ∷ es) → 1 ≤ last_met u es →
+      (t : ℕ) → place_of p x ≡ suc t → top_after p.order (parent p) t (last_met u es) ≡ bend_at p x u es
+  bend_top_at x u es q l t at =
+      ap (λ k. top_after p.order (parent p) k (last_met u es)) (let k : t ≡ place_of p x - 1 = omega arith in k)
+      ∙ (bend_top x u es q l).1
 
   -- what was met stays so
   pub under_before : (x u : ℕ) (es : List (ℕ × ℕ)) (y w : ℕ) → MetUnder p y w es → MetUnder p y w ((x, u) ∷ es)

@@ -292,6 +292,11 @@ module _ (n : ℕ) (up : ℕ → ℕ) (grows : Grows n up) where
       let m = under_le n up grows v w (b.outer v h (omega arith) (omega arith)) in
       omega arith
 
+  pub at_place_of : (v : ℕ) → Vertex n v → at_place n up (place n up v) ≡ v
+  at_place_of v h =
+      let b = place_bounds v h in
+      place_apart _ v (at_place_vertex _ b.0 b.1) h (place_at _ b.0 b.1)
+
   pub each_once : EachOnce n up
   unfolding times
   each_once = record {

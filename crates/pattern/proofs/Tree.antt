@@ -41,6 +41,13 @@ module _ (p : Pattern) where
   pub parent_is : (v : ℕ) → 1 ≤ parent p v → IsParent p v (parent p v)
   parent_is v some = elim (parent_tells v) [ inl (none, _) ↦ absurd (omega arith) | inr it ↦ it ]
 
+  pub parent_unique : (v u : ℕ) → IsParent p v u → parent p v ≡ u
+  parent_unique v u it =
+      elim (parent_tells v) [
+        | inl (_, none) ↦ absurd (none u it.above it.joins)
+        | inr q ↦ omega (arith, q.smallest u it.above it.joins, it.smallest (parent p v) q.above q.joins)
+      ]
+
   pub parents_grow : Grows p.order (parent p)
   parents_grow = record {
     rises = λ v _ _ some. (parent_is v some).above;
@@ -109,6 +116,10 @@ module _ (p : Pattern) where
   -- so what a way leads to lies above
   pub way_lies : (u v : ℕ) → v < u → Way p u u v → in_subtree p v u ≡ true
   way_lies u v less w = under_of p.order (parent p) parents_grow (way_climb u v less w)
+
+  -- the fill joins only what lies above
+  pub fill_above : (v w : ℕ) → v < w → fill p v w ≡ true → in_subtree p v w ≡ true
+  fill_above v w less e = way_lies w v less (wider (omega (arith, less)) (fill_way v w less e))
 
   pub below_way : (v u : ℕ) → below p v u ≡ true → (v < u) × Way p u u v
   unfolding below
