@@ -11,6 +11,7 @@ use Rattle.analysis.specs.declared.records.Vertex.{Vertex}
 use Rattle.analysis.specs.Tables.{vertex, no_vertex, Only, parent_from, level_from}
 use Rattle.analysis.specs.Tables.{parent_of, weight_from, tree_from, place_from, at_from, walk_from, reach_from}
 use Rattle.analysis.specs.Tables.{order_from, counts_from}
+use Rattle.analysis.specs.Order.{Holds}
 
 -- what holds at a number holds at an equal one
 pub at_equal : {A : Type 0} (P : ℕ → A → Type 0) {a : A} {s t : ℕ} → P s a → s ≡ t → P t a
@@ -112,6 +113,13 @@ module _ (mix : Vertex → Vertex → Vertex) (keeps : (x y : Vertex) → (mix x
 
   pub grows_only : (n : ℕ) (vs ws : List Vertex) → Only mix vs ws → Grows n (parent_of vs) → Grows n (parent_of ws)
   grows_only n vs ws only = subst (Grows n) (sym (same_parents vs ws only))
+
+  pub holds_only : {A : Type 0} (field : Vertex → A) (f : ℕ → (ℕ → ℕ) → ℕ → A) →
+      ((x y : Vertex) → field (mix x y) ≡ field x) →
+      (n : ℕ) (vs ws : List Vertex) → Only mix vs ws → Holds n field f vs → Holds n field f ws
+  holds_only field f stays n vs ws only h v p q =
+      ap field (only v) ∙ stays (vertex vs v) (vertex ws v) ∙ h v p q
+      ∙ ap (λ up. f n up v) (sym (same_parents vs ws only))
 
 -- A change of some fields is a change of more.
 pub only_more : (mix more : Vertex → Vertex → Vertex) → ((x y : Vertex) → mix x y ≡ more x (mix x y)) →

@@ -33,7 +33,7 @@ use Rattle.analysis.proofs.CountedTables.{taken_only}
 use Rattle.analysis.proofs.CountedEvents.{prepared_only, passed_at, tops_last}
 
 -- no event has happened
-counting_none : (p : Pattern) (vs bs ws : List Vertex) → p.order ≡ length vs → p.order ≡ length bs → Ready p bs →
+pub counting_none : (p : Pattern) (vs bs ws : List Vertex) → p.order ≡ length vs → p.order ≡ length bs → Ready p bs →
     bs ≡ map uncounted vs → ChildrenTaken p.order bs ws → Counting p 0 ws
 counting_none p vs bs ws long wide ready is taken =
     let at : (v : ℕ) → 1 ≤ v → v ≤ p.order → vertex bs v ≡ uncounted (vertex vs v) =
@@ -94,7 +94,7 @@ sum_wraps f g (x ∷ xs) same =
     ∙ int_wrap-add_right w64 (g x) (sum_ℤ g xs)
 
 -- all events have happened, and the weights are gathered
-counted_all : (p : Pattern) (vs ws : List Vertex) → p.order ≤ 16384 → Ready p vs → Counting p p.order vs →
+pub counted_all : (p : Pattern) (vs ws : List Vertex) → p.order ≤ 16384 → Ready p vs → Counting p p.order vs →
     Gathered no_weight summed no_vertex (λ x. x.parent) (λ x. x.weight) with_weight p.order vs ws → Counted p ws
 unfolding subtree
 counted_all p vs ws few ready c g =

@@ -6,6 +6,7 @@ use Rattle.std.proofs.lemmas.Bool.{cases_Bool, cases_lt, cases_eq, ltb-false, co
 use Rattle.std.proofs.lemmas.Bool.Decides.{nat_tests}
 use Rattle.pattern.specs.Patterns.{Pattern, shares}
 use Rattle.pattern.specs.Elimination.{parent}
+use Rattle.pattern.specs.Forest.{Grows}
 use Rattle.pattern.specs.Analysis.{place_of, level_of}
 use Rattle.pattern.specs.Walks.{at_place}
 use Rattle.pattern.specs.Tops.{top_after}
@@ -55,14 +56,13 @@ prepared_only vs ws es long only prepared =
           (ready_only (pattern_in vs es) vs ws only prepared.tree);
     }
 
+pub ready_grows : (p : Pattern) (vs : List Vertex) → Ready p vs → Grows p.order (parent_of vs)
+ready_grows p vs ready =
+    grows_agrees p.order (parent p) (parent_of vs) (λ v l h. sym (ready.parents v l h)) (parents_grow p)
+
 pub prepared_forest : (vs : List Vertex) (es : List Entry) → Prepared vs es → Forest vs
 prepared_forest vs es prepared =
-    let p = pattern_in vs es in
-    record {
-      few = prepared.few;
-      grows = grows_agrees p.order (parent p) (parent_of vs) (λ v l h. sym (prepared.tree.parents v l h))
-          (parents_grow p);
-    }
+    record { few = prepared.few; grows = ready_grows (pattern_in vs es) vs prepared.tree }
 
 -- One event more: x is met as a neighbour of u, when the places before that of x are passed.
 module _ (p : Pattern) (vs : List Vertex) (s : Sets) (x u : ℕ) (es : List (ℕ × ℕ)) (ready : Ready p vs)

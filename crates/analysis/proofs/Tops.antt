@@ -1,6 +1,6 @@
 -- Ancestor sets and the parents they give: what a find and a merge come to, and the rows by which the trees grow.
-use Rattle.std.proofs.Common.{◌≡◌, ℕ, ◌+◌, ◌-◌, ◌<◌, ◌≤◌, Bool, true, cond, eqb, ◌≢◌, List, map, length, set, Some, None, Option, sym, refl, ap, ◌∙◌, subst, inl, inr, arith}
-use Rattle.std.proofs.lemmas.Bool.{cases_eq, ne_eqb, eq-eqb, cond-true, cond-false}
+use Rattle.std.proofs.Common.{◌≡◌, ℕ, ◌+◌, ◌-◌, ◌<◌, ◌≤◌, Bool, true, cond, eqb, ◌≢◌, List, map, length, set, Some, None, Option, unwrap_or, sym, refl, ap, ◌∙◌, subst, inl, inr, arith}
+use Rattle.std.proofs.lemmas.Bool.{cases_eq, cases_Bool, ne_eqb, eq-eqb, cond-true, cond-false}
 use Rattle.std.proofs.lemmas.Bool.Decides.{nat_tests}
 use Rattle.std.proofs.lemmas.List.{length-map}
 use Rattle.pattern.specs.Patterns.{Pattern, shares}
@@ -9,7 +9,7 @@ use Rattle.pattern.specs.Crowns.{AfterRows, InRow, Adopts}
 use Rattle.pattern.proofs.Tree.{parents_grow}
 use Rattle.pattern.proofs.Crowns.{adopts_none, adopts_one, adopts_taken, adopts_keeps}
 use Rattle.pattern.proofs.Crowns.{rows_start, row_begin, row_step, row_end, rows_end, rows_end_tops}
-use Rattle.sets.specs.Meaning.{Sets, Sound, Found, Merged, among, mergeable}
+use Rattle.sets.specs.Meaning.{Sets, Sound, Found, Merged, among, in_use, mergeable}
 use Rattle.analysis.specs.declared.records.End.TheVariants.{High}
 use Rattle.analysis.specs.declared.records.Entry.{Entry}
 use Rattle.analysis.specs.declared.records.Vertex.{Vertex}
@@ -41,6 +41,20 @@ found_some s t v o f from to =
 pub found_top : (s t : Sets) (v r : ℕ) (o : Option ℕ) →
     o ≡ Some r → Found s v o t → 1 ≤ v → v ≤ s.used → r ≡ s.top v
 found_top s t v r o e f from to = let i = found_some s t v o f from to in cc
+
+-- the top of a vertex in use, or else d
+pub found_within : (s t : Sets) (v d : ℕ) (r : Option ℕ) →
+    Sound s → Found s v r t → 1 ≤ d → d ≤ s.used → (1 ≤ unwrap_or r d) × (unwrap_or r d ≤ s.used)
+found_within s t v d r sound f p q =
+    elim (cases_Bool (in_use s v)) [
+      | inl is ↦
+          let e = ap (λ o. unwrap_or o d) f.answer ∙ ap (λ b. unwrap_or (cond b (Some (s.top v)) None) d) is in
+          let b = among_parts s.used (s.top v) (sound.top_in_use v is) in
+          (omega arith, omega arith)
+      | inr out ↦
+          let e = ap (λ o. unwrap_or o d) f.answer ∙ ap (λ b. unwrap_or (cond b (Some (s.top v)) None) d) out in
+          (omega arith, omega arith)
+    ]
 
 pub adopted_other : (vs : List Vertex) (r q u : ℕ) →
     r ≡ q → r ≢ u → set vs (r - 1) (with_parent (vertex vs r) u) ≡ adopted vs q u
@@ -178,6 +192,9 @@ rows_none es s vs ws is fresh =
     rows_start (pattern_in vs es) (parent_of ws) s.top
     (λ v p q. ap (λ t. parent_of t v) is ∙ ap (λ x. x.parent) (vertex_map alone vs v p q))
     fresh.own
+
+pub rows_at : (p : Pattern) (u w : ℕ) (P T : ℕ → ℕ) → u ≡ w → AfterRows p u P T → AfterRows p w P T
+rows_at p u w P T e after = subst (λ m. AfterRows p m P T) e after
 
 -- the last row is done
 pub rows_all : (es : List Entry) (n m u : ℕ) (P T : ℕ → ℕ) → n ≡ m → u ≡ m →

@@ -1,5 +1,5 @@
 -- What a call of the model makes of a line that asks for it.
-use Rattle.std.proofs.Common.{◌≡◌, ℕ, Bool, true, cond, not, length, is_err, Some, None, Ok, Err, Option}
+use Rattle.std.proofs.Common.{◌≡◌, ℕ, Bool, true, false, cond, not, length, is_err, Some, None, Ok, Err, Option}
 use Rattle.std.proofs.Common.{Result, sym, refl, ap, ◌∙◌, subst, arith}
 use Rattle.std.specs.Result.{MatchResult, result_map_both}
 use Rattle.model.specs.Meaning.{meaning, Outcome}
@@ -20,8 +20,13 @@ use Rattle.frame_file.specs.declared.states.RunState.TheVariants.{BeforeModel, U
 use Rattle.frame_file.specs.Carried.{Carried, Does, lent_with}
 use Rattle.frame_file.specs.Runs.{Sizes, allowed, bare, in_place, judged, left_by, refusal_of, said, unless, written}
 
+-- a rule that is met is not passed over
+pub passed : (b : Bool) (x : Refusal) (rest : Option Refusal) → cond b (Some x) rest ≡ None → b ≡ false
+passed true x rest e = absurd (cc)
+passed false x rest e = refl
+
 -- what is told of a call that a refusal f may come before
-by_refusal : {X : Type 0} (z : Sizes) (t : Statement) (before after : Model) (x : X) (tell : X → Answer)
+pub by_refusal : {X : Type 0} (z : Sizes) (t : Statement) (before after : Model) (x : X) (tell : X → Answer)
     (f : Option Refusal) (r : Result Answer Refusal)
     → meaning after ≡ if_accepted f (left_by z (meaning before) t) (meaning before)
     → bare (tell x) ≡ said (meaning after) t

@@ -1,22 +1,118 @@
--- The lines of a file, one after another: what the lines left make of a run is what all make of it as it began.
-use Rattle.std.proofs.Common.{◌≡◌, ℕ, ◌+◌, Bool, List, Some, sym, ap, ◌∙◌, subst}
+-- The lines of a file, one after another: what the lines left make of a run is what all make of it as it began. What is
+-- lent for them matters only until the model is made.
+use Rattle.std.proofs.Common.{◌≡◌, ℕ, ◌+◌, Bool, true, false, cond, List, Some, None, Ok, Err, Option, Result}
+use Rattle.std.proofs.Common.{sym, refl, ap, ◌∙◌, subst}
+use Rattle.std.proofs.lemmas.Bool.{cond-false}
 use Rattle.sets.specs.Meaning.{Sets}
 use Rattle.model.specs.Meaning.{meaning}
 use Rattle.model.specs.SetsAfter.{SameSets}
 use Rattle.model.specs.States.{State}
 use Rattle.model.specs.Untouched.{Places, Untouched, either}
 use Rattle.model.specs.declared.models.Model.{Model}
+use Rattle.model.specs.declared.refusals.Refusal.{Refusal}
 use Rattle.model.specs.declared.stores.Store.{Store}
 use Rattle.model.proofs.Rests.{untouched_by_both}
 use Rattle.frame_text.specs.Answers.{whole_block}
 use Rattle.frame_text.specs.Lines.{lines}
 use Rattle.frame_text.specs.Readers.{Hands, handed, left}
+use Rattle.frame_text.specs.Records.{Statement, makes, puts, drops, analyses, asks}
+use Rattle.frame_text.specs.declared.faults.LineFault.{LineFault}
 use Rattle.frame_text.specs.declared.lines.FrameReader.{FrameReader}
 use Rattle.frame_text.specs.declared.lines.Line.{Line}
+use Rattle.frame_file.specs.declared.faults.RunFault.TheVariants.{OutOfPlace}
 use Rattle.frame_file.specs.Carried.{LineAnswered, lent_with, places}
+use Rattle.frame_file.specs.Runs.{empty, in_place, left_by, refusal_of, state_by, unless, verdict}
 use Rattle.frame_file.specs.Runs.{Answered, Sizes, line_sets, line_state, line_text, line_verdict, line_written}
 use Rattle.frame_file.specs.Runs.{sets_from, states_from, written_from}
 use Rattle.frame_file.proofs.Settling.{same_sets, sets_size}
+
+abbrev lent_of : ℕ → ℕ → Sizes
+lent_of a k = record { vertices = a; sets = k }
+
+module _ (v v' k : ℕ) (s : State) (line : ℕ) where
+  unmade : (t : Statement) (a : ℕ) (b : Bool) → empty s ≡ b → b ≡ false
+      → state_by (lent_of a k) s (cond (empty s) (unless line (refusal_of (lent_of a k) s t) t) (Err (OutOfPlace line)))
+      ≡ s
+  unmade t a b e f =
+      ap (λ c. state_by (lent_of a k) s (cond c (unless line (refusal_of (lent_of a k) s t) t) (Err (OutOfPlace line))))
+      (e ∙ f)
+
+  made_by : (t : Statement) (b : Bool) → empty s ≡ b → (empty s ≡ true → v ≡ v')
+      → state_by (lent_of v k) s (cond (empty s) (unless line (refusal_of (lent_of v k) s t) t) (Err (OutOfPlace line)))
+      ≡ state_by (lent_of v' k) s
+      (cond (empty s) (unless line (refusal_of (lent_of v' k) s t) t) (Err (OutOfPlace line)))
+  made_by t true e same =
+      ap (λ a. state_by (lent_of a k) s
+      (cond (empty s) (unless line (refusal_of (lent_of a k) s t) t) (Err (OutOfPlace line)))) (same e)
+  made_by t false e same = unmade t v false e refl ∙ sym (unmade t v' false e refl)
+
+  -- where neither the refusals nor what an accepted statement makes depends on the vertex table
+  apart_from : (t : Statement) (b : Bool) (f : Option Refusal) → left_by (lent_of v k) s t ≡ left_by (lent_of v' k) s t
+      → state_by (lent_of v k) s (cond b (unless line f t) (Err (OutOfPlace line)))
+      ≡ state_by (lent_of v' k) s (cond b (unless line f t) (Err (OutOfPlace line)))
+  apart_from t true None e = e
+  apart_from t true (Some refusal) e = refl
+  apart_from t false f e = refl
+
+  pub alike : (r : Result Statement LineFault) → (empty s ≡ true → v ≡ v')
+      → state_by (lent_of v k) s (verdict (lent_of v k) s line r)
+      ≡ state_by (lent_of v' k) s (verdict (lent_of v' k) s line r)
+  alike (Ok (makes name order)) same = made_by (makes name order) (empty s) refl same
+  alike (Ok (puts i j)) same =
+      apart_from (puts i j) (in_place s (puts i j)) (refusal_of (lent_of v k) s (puts i j)) refl
+  alike (Ok (drops i j)) same =
+      apart_from (drops i j) (in_place s (drops i j)) (refusal_of (lent_of v k) s (drops i j)) refl
+  alike (Ok analyses) same = apart_from analyses (in_place s analyses) (refusal_of (lent_of v k) s analyses) refl
+  alike (Ok (asks question vertex)) same =
+      apart_from (asks question vertex) (in_place s (asks question vertex))
+      (refusal_of (lent_of v k) s (asks question vertex)) refl
+  alike (Err fault) same = refl
+
+module _ (v v' k : ℕ) (s : State) (line : ℕ) where
+  verdict_made : (t : Statement) (b : Bool) → empty s ≡ b → (empty s ≡ true → v ≡ v')
+      → cond (empty s) (unless line (refusal_of (lent_of v k) s t) t) (Err (OutOfPlace line))
+      ≡ cond (empty s) (unless line (refusal_of (lent_of v' k) s t) t) (Err (OutOfPlace line))
+  verdict_made t true e same =
+      ap (λ a. cond (empty s) (unless line (refusal_of (lent_of a k) s t) t) (Err (OutOfPlace line))) (same e)
+  verdict_made t false e same =
+      cond-false (empty s) _ _ e ∙ sym (cond-false (empty s) (unless line (refusal_of (lent_of v' k) s t) t) _ e)
+
+  -- whether a line is accepted depends as little on what is lent
+  pub verdict_alike : (r : Result Statement LineFault) → (empty s ≡ true → v ≡ v')
+      → verdict (lent_of v k) s line r ≡ verdict (lent_of v' k) s line r
+  verdict_alike (Ok (makes name order)) same = verdict_made (makes name order) (empty s) refl same
+  verdict_alike (Ok (puts i j)) same = refl
+  verdict_alike (Ok (drops i j)) same = refl
+  verdict_alike (Ok analyses) same = refl
+  verdict_alike (Ok (asks question vertex)) same = refl
+  verdict_alike (Err fault) same = refl
+
+module _ (z : Sizes) (s : State) (line : ℕ) where
+  same_order : (t : Statement) (b : Bool) (f : Option Refusal) → empty (left_by z s t) ≡ empty s
+      → empty (state_by z s (cond b (unless line f t) (Err (OutOfPlace line)))) ≡ empty s
+  same_order t true None e = e
+  same_order t true (Some refusal) e = refl
+  same_order t false f e = refl
+
+  unmade_by : (t : Statement) (b : Bool) → empty s ≡ b
+      → empty (state_by z s (cond (empty s) (unless line (refusal_of z s t) t) (Err (OutOfPlace line)))) ≡ true
+      → empty s ≡ true
+  unmade_by t true e h = e
+  unmade_by t false e h =
+      sym (ap (λ c. empty (state_by z s (cond c (unless line (refusal_of z s t) t) (Err (OutOfPlace line))))) e) ∙ h
+
+  -- a line that leaves the model empty has found it so
+  pub still_empty : (r : Result Statement LineFault) → empty (state_by z s (verdict z s line r)) ≡ true → empty s ≡ true
+  still_empty (Ok (makes name order)) h = unmade_by (makes name order) (empty s) refl h
+  still_empty (Ok (puts i j)) h =
+      sym (same_order (puts i j) (in_place s (puts i j)) (refusal_of z s (puts i j)) refl) ∙ h
+  still_empty (Ok (drops i j)) h =
+      sym (same_order (drops i j) (in_place s (drops i j)) (refusal_of z s (drops i j)) refl) ∙ h
+  still_empty (Ok analyses) h = sym (same_order analyses (in_place s analyses) (refusal_of z s analyses) refl) ∙ h
+  still_empty (Ok (asks question vertex)) h =
+      sym (same_order (asks question vertex) (in_place s (asks question vertex))
+      (refusal_of z s (asks question vertex)) refl) ∙ h
+  still_empty (Err fault) h = h
 
 -- a run from `start`, with the sets `lent`, and from the sink `first`
 module _ {A : Type 0} (took : A → List ℕ → A → Type 0) (start : Model) (lent : Sets) (file : List ℕ) (first : A) where

@@ -1,10 +1,20 @@
 -- Bytes written one after the other into a block.
-use Rattle.std.proofs.Common.{◌≡◌, ℕ, zero, suc, ◌-◌, ◌<◌, ◌≤◌, ◌↔◌, List, [], ◌∷◌, ◌++◌, length, take, drop, replicate, Ok, Err, IsOk, OnOk, OnErr, Result, sym, refl, ap, ◌∙◌, subst, append_assoc, arith, length-append}
+use Rattle.std.proofs.Common.{◌≡◌, ℕ, zero, suc, ◌-◌, ◌<◌, ◌≤◌, ◌↔◌, List, [], ◌∷◌, ◌++◌, length, take, drop, set, replicate, Ok, Err, IsOk, OnOk, OnErr, Result, sym, refl, ap, ◌∙◌, subst, append_assoc, arith, length-append}
 use Rattle.std.proofs.lemmas.List.{take_all, take-append-le, length-take}
 use native.Mathlib.Nat.{sub-zero}
 use Rattle.frame_text.specs.declared.answers.Block.{Block}
 use Rattle.frame_text.specs.Answers.{filled, block_of, whole_block}
 use Rattle.frame_text.specs.Blocks.{Holds, Adds}
+
+pub filled_push : (n : ℕ) (t : List ℕ) (b : ℕ) → set (filled n t) (length t) b ≡ filled n (t ++ b ∷ [])
+filled_push zero t b = refl
+filled_push (suc n) [] b = refl
+filled_push (suc n) (c ∷ t) b = ap (λ u. c ∷ u) (filled_push n t b)
+
+pub filled_full : (n : ℕ) (t us : List ℕ) → n ≤ length t → filled n t ≡ filled n (t ++ us)
+filled_full zero t us full = refl
+filled_full (suc n) [] us full = absurd (omega arith)
+filled_full (suc n) (c ∷ t) us full = ap (λ u. c ∷ u) (filled_full n t us (omega arith))
 
 pub filled_whole : (n : ℕ) (t : List ℕ) → length t ≤ n → filled n t ≡ t ++ replicate (n - length t) 0
 filled_whole zero [] fits = refl

@@ -34,7 +34,7 @@ nowhere p xs at =
       | inr none ↦ omega arith
     ]
 
-lines_ended : (bs : List ℕ) → position_or_len lf bs < length bs →
+pub lines_ended : (bs : List ℕ) → position_or_len lf bs < length bs →
     lines bs ≡ (before_first lf bs, true) ∷ lines (after_first lf bs)
 lines_ended [] found = absurd (omega arith)
 lines_ended (b ∷ bs) found =
@@ -46,7 +46,7 @@ lines_ended (b ∷ bs) found =
     lines (drop (cond (not v) (1 + position_or_len lf bs) 0 + 1) (b ∷ bs)))
     [ true ↦ λ _. refl | false ↦ λ later. rw (one, two) (ap (onto_line b) (lines_ended bs (omega arith))) ] found
 
-lines_last : (b : ℕ) (bs : List ℕ) → position_or_len lf (b ∷ bs) ≡ length (b ∷ bs) →
+pub lines_last : (b : ℕ) (bs : List ℕ) → position_or_len lf (b ∷ bs) ≡ length (b ∷ bs) →
     lines (b ∷ bs) ≡ ((b ∷ bs), false) ∷ []
 lines_last b [] none =
     elim (eqb b 10) as (λ v. ◌≡◌ {A = ℕ} (cond (not v) 1 0) 1 →
@@ -57,7 +57,10 @@ lines_last b (c ∷ bs) none =
     cond v (([], true) ∷ lines (c ∷ bs)) (onto_line b (lines (c ∷ bs))) ≡ ((b ∷ c ∷ bs), false) ∷ [])
     [ true ↦ λ e. absurd (omega arith) | false ↦ λ later. ap (onto_line b) (lines_last c bs (omega arith)) ] none
 
--- a reader at `at`, with `rest` to come: before a last line that has no LF, and before a line that has one
+-- a reader at `at`, with `rest` to come: at the end, before a last line that has no LF, before a line that has one
+pub reads_end : (file : List ℕ) (at : ℕ) → at ≡ length file → lines (drop at file) ≡ []
+reads_end file at end = ap lines (drop_all at file (omega arith))
+
 pub reads_last : (file rest : List ℕ) (at : ℕ) → rest ≡ drop at file → (length rest ≡ 0 → ⊥) →
     position lf rest ≡ None → lines (drop at file) ≡ (rest, false) ∷ lines (drop (length file) file)
 reads_last file [] at is some none = absurd (some refl)

@@ -1,19 +1,20 @@
 -- The stages of a line's reading, as the code takes them.
-use Rattle.std.proofs.Common.{◌≡◌, ℕ, ◌<◌, ◌≤◌, Bool, true, false, cond, eqb, List, [], ◌∷◌, length, get_or, drop, Ok, Err, IsOkAnd, MatchResult, Result, refl, ap, inl, inr, arith}
+use Rattle.std.proofs.Common.{◌≡◌, ℕ, suc, ◌<◌, ◌≤◌, Bool, true, false, cond, eqb, List, [], ◌∷◌, length, get_or, drop, Ok, Err, IsOkAnd, MatchResult, Result, sym, refl, ap, inl, inr, arith}
 use Rattle.std.specs.List.{onto_first}
 use Rattle.std.specs.Result.{result_map_both}
-use Rattle.std.proofs.lemmas.Bool.{ne_eqb, le-ltb, cases_eq}
+use Rattle.std.proofs.lemmas.Bool.{ne_eqb, le-ltb, cond-false, cases_eq}
 use Rattle.frame_text.specs.declared.faults.FieldFault.{FieldFault}
 use Rattle.frame_text.specs.declared.faults.LineFault.{LineFault}
 use Rattle.frame_text.specs.declared.faults.LineFault.TheVariants as in_line
 use Rattle.frame_text.specs.declared.fields.Field.{Field}
 use Rattle.frame_text.specs.declared.records.Kind.{Kind}
-use Rattle.frame_text.specs.declared.records.Kind.TheVariants.{Put, Drop, Ask}
+use Rattle.frame_text.specs.declared.records.Kind.TheVariants.{Put, Drop, Analyse, Ask}
 use Rattle.frame_text.specs.declared.records.Question.{Question}
 use Rattle.frame_text.specs.declared.records.Record.{Record}
 use Rattle.frame_text.specs.Fields.{fields, is_number}
 use Rattle.frame_text.specs.Parts.{pair_of, second, third, one_field, two_fields, two_numbers}
-use Rattle.frame_text.specs.Records.{Part, Statement, part_of, statement_of, stated, puts, drops, numbered, operands, by_fields}
+use Rattle.frame_text.specs.Records.{Part, Statement, part, part_of, statement_of, stated, puts, drops}
+use Rattle.frame_text.specs.Records.{counted, numbered, operands, by_fields}
 use Rattle.frame_text.specs.Records.{kind_of, by_count, by_kind, by_letter, reading}
 
 pub some_field : (bs : List ℕ) → 0 < length (fields bs)
@@ -22,6 +23,16 @@ some_field (b ∷ bs) = elim (eqb b 44) as (λ v. 0 < length (cond v ([] ∷ fie
   | true ↦ omega arith
   | false ↦ elim (fields bs) as (λ fs. 0 < length (onto_first b fs)) [ [] ↦ omega arith | (f ∷ fs) ↦ omega arith ]
 ]
+
+abbrev beside : Part → Result Part LineFault → Result (Part × Part) LineFault
+beside p r = result_map_both (λ q. (p, q)) (λ fault. fault) r
+
+pub first_of_two : (line : ℕ) (f : List ℕ) (fs : List (List ℕ)) →
+    two_fields line (f ∷ fs) ≡ beside (part line 2 f) (counted line 1 fs (Ok (part line 3 (get_or fs 0 []))))
+first_of_two line f [] = refl
+first_of_two line f (g ∷ []) = refl
+first_of_two line f (g ∷ h ∷ gs) =
+    rw (ne_eqb (suc (suc (suc (length gs)))) 2 (λ e. omega arith), ne_eqb (suc (suc (length gs))) 1 (λ e. omega arith))
 
 -- a check that passed, and one that failed
 pub passed : {X Y : Type 0} (test : Bool) (fault : FieldFault) (x y : Y) (next : Result X LineFault) →
@@ -99,13 +110,43 @@ puts_two line fs = through _ (eqb (length fs) 2) (is_number (get_or fs 0 [])) (i
 pub drops_two : (line : ℕ) (fs : List (List ℕ)) → with_two drops (two_numbers line fs) ≡ by_count line Drop fs
 drops_two line fs = through _ (eqb (length fs) 2) (is_number (get_or fs 0 [])) (is_number (get_or fs 1 [])) _ _ _ _
 
--- a letter and a comma, with the fields of the rest; where the letter is itself a comma, field 1 is empty
+pub analyse_more : (line : ℕ) (bs : List ℕ) → Err (in_line.FieldCount line) ≡ by_count line Analyse (fields bs)
+analyse_more line bs =
+    let left = some_field bs in
+    sym (cond-false (eqb (length (fields bs)) 0) _ _ (ne_eqb (length (fields bs)) 0 (λ e. omega arith)))
+
+-- a line by its first bytes; where the letter is itself a comma, field 1 is empty
+first_byte : (line b : ℕ) (fs gs : List (List ℕ)) →
+    by_kind line (kind_of b) fs ≡ by_letter line (cond (eqb b 44) ([] ∷ gs) ((b ∷ []) ∷ fs))
+first_byte line b fs gs = elim (cases_eq b 44) [ inl e ↦ rw e | inr ne ↦ rw (ne_eqb b 44 ne) ]
+
+pub letter_alone : (line : ℕ) (bs : List ℕ) → length bs ≡ 1 →
+    by_kind line (kind_of (get_or bs 0 0)) [] ≡ by_letter line (fields bs)
+letter_alone line [] one = absurd (omega arith)
+letter_alone line (b ∷ c ∷ bs) one = absurd (omega arith)
+letter_alone line (b ∷ []) one = first_byte line b [] ([] ∷ [])
+
+-- a letter and a comma, with the fields of the rest
 pub letter_comma : (line : ℕ) (bs rest : List ℕ) → rest ≡ drop 2 bs → 2 ≤ length bs → get_or bs 1 0 ≡ 44 →
     by_kind line (kind_of (get_or bs 0 0)) (fields rest) ≡ by_letter line (fields bs)
 letter_comma line [] rest is long comma = absurd (omega arith)
 letter_comma line (b ∷ []) rest is long comma = absurd (omega arith)
-letter_comma line (b ∷ c ∷ bs) rest is long comma =
-    rw (is, comma) (elim (cases_eq b 44) [ inl e ↦ rw e | inr ne ↦ rw (ne_eqb b 44 ne) ])
+letter_comma line (b ∷ c ∷ bs) rest is long comma = rw (is, comma) (first_byte line b (fields bs) ([] ∷ fields bs))
+
+two_bytes : (line b c : ℕ) (fs : List (List ℕ)) →
+    Err (in_line.Kind line) ≡ by_letter line (onto_first b (onto_first c fs))
+two_bytes line b c [] = refl
+two_bytes line b c (f ∷ fs) = refl
+
+pub no_letter : (line : ℕ) (bs : List ℕ) → (length bs ≡ 1 → ⊥) → (2 ≤ length bs → get_or bs 1 0 ≡ 44 → ⊥) →
+    Err (in_line.Kind line) ≡ by_letter line (fields bs)
+no_letter line [] long other = refl
+no_letter line (b ∷ []) long other = absurd (long refl)
+no_letter line (b ∷ c ∷ bs) long other =
+    rw (ne_eqb c 44 (other (omega arith)))
+    (elim (eqb b 44) as (λ v. Err (in_line.Kind line) ≡
+    by_letter line (cond v ([] ∷ onto_first c (fields bs)) (onto_first b (onto_first c (fields bs)))))
+    [ true ↦ refl | false ↦ two_bytes line b c (fields bs) ])
 
 pub whole_line : (line : ℕ) (bs : List ℕ) (ended : Bool) → length bs ≤ 64 → ended ≡ true →
     by_letter line (fields bs) ≡ reading line bs ended

@@ -62,6 +62,14 @@ listed_remove (e ∷ es) (suc at) a b none =
     let (here, there) = or_parts (same_entry a b (pair_of e)) (listed (pairs_of es) a b) none in
     or_from _ _ here (listed_remove es at a b there)
 
+listed_without : (i j : ℕ) (es : List (ℕ × ℕ)) (a b : ℕ) → listed es a b ≡ false → listed (without i j es) a b ≡ false
+unfolding listed without
+listed_without i j [] a b none = none
+listed_without i j (e ∷ es) a b none =
+    let (here, there) = or_parts (same_entry a b e) (listed es a b) none in
+    elim (same_entry i j e) as (λ s. listed (cond s es (e ∷ without i j es)) a b ≡ false)
+    [ true ↦ there | false ↦ or_from _ _ here (listed_without i j es a b there) ]
+
 pub distinct_push : (es : List (ℕ × ℕ)) (a b : ℕ) → distinct es ≡ true → listed es a b ≡ false →
     distinct (es ++ (a, b) ∷ []) ≡ true
 unfolding listed
@@ -82,6 +90,15 @@ distinct_remove (e ∷ es) (suc at) apart =
     let (here, there) = and_parts (not (listed (pairs_of es) e.low e.high)) (distinct (pairs_of es)) apart in
     let alone = listed_remove es at e.low e.high (not-true _ here) in
     and_from _ _ (ap not alone) (distinct_remove es at there)
+
+pub distinct_without : (a b : ℕ) (es : List (ℕ × ℕ)) → distinct es ≡ true → distinct (without a b es) ≡ true
+unfolding without
+distinct_without a b [] apart = refl
+distinct_without a b (e ∷ es) apart =
+    let (here, there) = and_parts (not (listed es e.0 e.1)) (distinct es) apart in
+    let alone = listed_without a b es e.0 e.1 (not-true _ here) in
+    elim (same_entry a b e) as (λ s. distinct (cond s es (e ∷ without a b es)) ≡ true)
+    [ true ↦ there | false ↦ and_from _ _ (ap not alone) (distinct_without a b es there) ]
 
 sorted_head : (n : ℕ) (e : Entry) (es : List Entry) → Sound n (pairs_of (e ∷ es)) →
     (e.low < e.high) × Sound n (pairs_of es)

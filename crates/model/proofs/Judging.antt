@@ -30,7 +30,7 @@ pub judged : (s : State) (i j : ℕ) (p : Pair) → answer (first_of (entry_rule
 judged s i j p ok = let (none, is) = answered _ _ _ ok in record { none = none; is = is }
 
 -- such a pair is of the order, the lower vertex first
-sound_pair : (s : State) (i j : ℕ) → first_of (entry_rules s i j) ≡ None → SoundPair s.order (min i j, max i j)
+pub sound_pair : (s : State) (i j : ℕ) → first_of (entry_rules s i j) ≡ None → SoundPair s.order (min i j, max i j)
 sound_pair s i j none =
     let (order, (first, (second, (other, end)))) = unmet (entry_rules s i j) none in
     let (i-one, i-most) = within_from s.order i (not-false _ first) in

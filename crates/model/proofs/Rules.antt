@@ -16,6 +16,12 @@ none_of [] ys none = refl
 none_of ((true, f) ∷ xs) ys none = absurd (cc)
 none_of ((false, f) ∷ xs) ys none = none_of xs ys none
 
+-- the rules before others
+pub some_of : (xs ys : List Rule) (f : Refusal) → first_of xs ≡ Some f → first_of (xs ++ ys) ≡ Some f
+some_of [] ys f some = absurd (cc)
+some_of ((true, e) ∷ xs) ys f some = some
+some_of ((false, e) ∷ xs) ys f some = some_of xs ys f some
+
 -- none of the rules is met
 abbrev pub Unmet : List Rule → Type 0
 Unmet [] = Unit {0}
@@ -30,6 +36,11 @@ unmet ((false, f) ∷ rules) none = (refl, unmet rules none)
 pub answered : {X : Type 0} (o : Option Refusal) (x y : X) → answer o x ≡ Ok y → (o ≡ None) × (x ≡ y)
 answered None x y ok = (refl, cc)
 answered (Some f) x y ok = absurd (cc)
+
+-- what an answer that is one tells
+pub met_some : {X : Type 0} (o : Option Refusal) (x : X) (f : Refusal) → answer o x ≡ Err f → o ≡ Some f
+met_some None x f err = absurd (cc)
+met_some (Some e) x f err = ap Some (cc)
 
 pub refused : {X : Type 0} (g : Given) (m : Model) (x : X) (f : Refusal) → first_refusal (meaning m) g ≡ Some f →
     Outcome g m m x (Err f)
