@@ -1,5 +1,5 @@
 -- Which refusal a put and a drop meet first, from what the code has found out.
-use Rattle.std.proofs.Common.{◌≡◌, ℕ, ◌<◌, min, max, Bool, false, not, eqb, [], ◌∷◌, ◌++◌, length, is_some, Some}
+use Rattle.std.proofs.Common.{◌≡◌, ℕ, ◌<◌, ◌≤◌, min, max, Bool, false, not, eqb, [], ◌∷◌, ◌++◌, length, is_some, Some}
 use Rattle.std.proofs.Common.{None, Ok, Option, sym, refl, ap, ◌∙◌, subst, arith}
 use Rattle.std.proofs.lemmas.List.{length-take-le}
 use Rattle.std.proofs.lemmas.Bool.{eqb-false, not-false}
@@ -8,10 +8,11 @@ use Rattle.analysis.specs.Tables.{SoundPair}
 use Rattle.model.specs.declared.models.Model.{Model}
 use Rattle.model.specs.declared.pairs.Pair.{Pair}
 use Rattle.model.specs.declared.stores.Store.{Store}
+use Rattle.model.specs.declared.refusals.Side.{Side}
 use Rattle.model.specs.declared.refusals.Refusal.TheVariants.{EntryHeld, ModelFull, EntryNotHeld}
 use Rattle.model.specs.Meaning.{meaning, Outcome}
 use Rattle.model.specs.States.{State, Given, Put, Drop, accepted, answer, changed, step}
-use Rattle.model.specs.States.{first_of, first_refusal, entry_rules}
+use Rattle.model.specs.States.{first_of, first_refusal, entry_rules, largest_order, outside}
 use Rattle.model.specs.Stored.{held_by, means, Fresh, Pushed, Removed}
 use Rattle.model.specs.Tables.{index_of, sorted}
 use Rattle.model.specs.Untouched.{Untouched, writes}
@@ -37,6 +38,15 @@ sound_pair s i j none =
     let (j-one, j-most) = within_from s.order j (not-false _ second) in
     let apart = eqb-false i j other in
     record { from = omega arith; rises = omega arith; within = omega arith }
+
+-- a vertex that is judged to be of the order is one of the largest order, so that 16 bits hold it
+pub vertex_small : (m : Model) (side : Side) (v : ℕ) (x : Unit {0}) →
+    answer (first_of (outside (meaning m) side v ∷ [])) tt ≡ Ok x → v ≤ largest_order
+vertex_small m side v x ok =
+    let (none, end) = answered _ _ _ ok in
+    let (inside, last) = unmet (outside (meaning m) side v ∷ []) none in
+    let (one, most) = within_from m.store.order v (not-false _ inside) in
+    omega (arith, m.store.small)
 
 -- an entry is listed exactly if its pair is found
 listed_as : (s : Store) (i j : ℕ) (p : Pair) (o : Option ℕ) (held : Bool) → Judged (means s) i j p →

@@ -37,8 +37,9 @@ impl Store<'_> {
     pub(crate) fn find(&self, pair: Pair) -> Option<usize>
         ensures { result ≡ index_of pair (held_by self.now) }
     {
-        self.entries[..self.held as usize].iter().position(|entry| entry.low as u32 == pair.low
-            && entry.high as u32 == pair.high)
+        self.entries[..self.held as usize]
+            .iter()
+            .position(|entry| entry.low == pair.low && entry.high == pair.high)
     }
 
     // Holds one more entry, after the others.
@@ -47,8 +48,8 @@ impl Store<'_> {
         ensures { Pushed pair self.old self.new }
     {
         self.entries[self.held as usize] = Entry {
-            low: pair.low as u16,
-            high: pair.high as u16,
+            low: pair.low,
+            high: pair.high,
             lower: 0,
             upper: 0,
         };
