@@ -1,6 +1,7 @@
 -- A file is its first line and the lines of the rest.
 use Rattle.std.proofs.Common.{◌≡◌, ℕ, suc, ◌+◌, ◌<◌, ◌≤◌, Bool, true, false, cond, not, eqb, List, [], ◌∷◌, length, take, drop, position, Option, Some, None, sym, refl, ap, ◌∙◌, inl, inr, arith}
 use Rattle.std.specs.List.{position_or_len, before_first, after_first}
+use Rattle.std.specs.Option.{unwrap_or}
 use Rattle.std.proofs.lemmas.Bool.{cases_lt, le-ltb, lt-ltb}
 use Rattle.std.proofs.lemmas.List.{drop_all, drop-drop}
 use Rattle.std.proofs.lemmas.List.Sums.{prefix_len-le-length}
@@ -33,6 +34,15 @@ nowhere p xs at =
           absurd (let z : ◌≡◌ {A = ℕ} 0 1 = cc in omega arith)
       | inr none ↦ omega arith
     ]
+
+-- a search that answers the length where it finds none: it found none if it ends there, and else the place
+pub none_by : (bs : List ℕ) (o : Option ℕ) → position lf bs ≡ o → unwrap_or o (length bs) ≡ length bs → o ≡ None
+none_by bs None at last = refl
+none_by bs (Some n) at last = let found = placed lf bs n at in absurd (omega (arith, last, found.1))
+
+pub some_by : (bs : List ℕ) (o : Option ℕ) (n : ℕ) → unwrap_or o (length bs) ≡ n → (n ≡ length bs → ⊥) → o ≡ Some n
+some_by bs None n is other = absurd (other (sym is))
+some_by bs (Some m) n is other = ap Some is
 
 pub lines_ended : (bs : List ℕ) → position_or_len lf bs < length bs →
     lines bs ≡ (before_first lf bs, true) ∷ lines (after_first lf bs)

@@ -35,14 +35,16 @@ impl<'a> Iterator for FrameReader<'a> {
         }
         self.line += 1;
         let number = self.line;
-        let Some(end) = rest.iter().position(|b| *b == b'\n') else {
+        // The length where there is no LF: no option, by which the search would keep each byte that it sees.
+        let end = rest.iter().position(|b| *b == b'\n').unwrap_or(rest.len());
+        if end == rest.len() {
             self.at = self.file.len();
             return Some(Line {
                 bytes: rest,
                 number,
                 ended: false,
             });
-        };
+        }
         self.at += end + 1;
         Some(Line {
             bytes: &rest[..end],

@@ -3,16 +3,17 @@ use Rattle.std.proofs.Common.{◌-◌, length, take, drop, sym, refl, ap, ◌∙
 use Rattle.std.proofs.lemmas.List.{take_rest}
 use Rattle.std.proofs.lemmas.Iterator.{YieldsList-from_slice}
 use Rattle.std.proofs.lemmas.Iterator.Search.{position_from_yields_List}
-use Rattle.frame_text.proofs.Splits.{lf, reads_last, reads_line}
+use Rattle.frame_text.proofs.Splits.{lf, none_by, some_by, reads_last, reads_line}
 use Rattle.frame_text.proofs.lines.reading.FrameReaderIterator.next.Goals as goal
 
-pub returns-in_default-clause-steps : goal.returns-in_default-clause-steps
-returns-in_default-clause-steps c =
+pub returns-then-end-rest-clause-steps : goal.returns-then-end-rest-clause-steps
+returns-then-end-rest-clause-steps c =
     let file = c.args.self.now.file.now in let at = c.args.self.now.at in
     let rest = take_rest file at in
     let place = position_from_yields_List lf _ _ c.position.result c.position.ensures.ran
-    (YieldsList-from_slice (take (length file - at) (drop at file)) (cc)) (λ x b q k. search (rules, tests)) in (
-      reads_last file _ at rest (λ none. search (rules, c.if-is_empty.false)) (sym place ∙ c.in_default.is),
+    (YieldsList-from_slice (take (length file - at) (drop at file)) (cc)) (λ x b q k. search (rules, tests)) in
+    let none = none_by _ _ (sym place) (sym c.unwrap_or-end.ensures ∙ c.if-end-rest.true) in (
+      reads_last file _ at rest (λ none. search (rules, c.if-is_empty.false)) (sym place ∙ none),
       refl,
       refl,
     )
@@ -22,8 +23,10 @@ returns-clause-steps c =
     let file = c.args.self.now.file.now in let at = c.args.self.now.at in
     let rest = take_rest file at in
     let place = position_from_yields_List lf _ _ c.position.result c.position.ensures.ran
-    (YieldsList-from_slice (take (length file - at) (drop at file)) (cc)) (λ x b q k. search (rules, tests)) in (
-      reads_line file _ at c.in-Some.end rest (sym place ∙ c.in-Some.is),
+    (YieldsList-from_slice (take (length file - at) (drop at file)) (cc)) (λ x b q k. search (rules, tests)) in
+    let some =
+    some_by (take (length file - at) (drop at file)) _ _ (sym c.unwrap_or-end.ensures) c.if-end-rest.false in (
+      reads_line file _ at c.unwrap_or-end.result rest (sym place ∙ some),
       refl,
       refl,
     )
